@@ -1,0 +1,27 @@
+-- Document 01, "Lists of calls": records taken one by one, and the list without its refused ones, for any step.
+use mathlib.Core.Bool.{Bool, cond}
+use mathlib.Core.List.{List, [], _∷_}
+
+-- The answers to a list of records and the state at its end.
+unfoldable pub run : {S R A : Type 0} → (S → R → A × S) → S → List R → List A × S
+run step s [] = ([], s)
+run step s (r ∷ l) =
+    let next = step s r in
+    let rest = run step (next .1) l in
+    (next .0 ∷ rest .0, rest .1)
+
+-- The entries of a list beside whose answers there is no refusal.
+unfoldable pub unrefused : {X A : Type 0} → (A → Bool) → List X → List A → List X
+unrefused refused [] answers = []
+unrefused refused (x ∷ l) [] = x ∷ l
+unrefused refused (x ∷ l) (a ∷ answers) = cond (refused a) (unrefused refused l answers) (x ∷ unrefused refused l answers)
+
+-- What the records make of b, one after the other.
+unfoldable pub trace : {R B : Type 0} → (R → B → B) → B → List R → B
+trace change b [] = b
+trace change b (r ∷ l) = trace change (change r b) l
+
+-- A chain of states and answers in which each link is what the promise says of a state and a record.
+pub data Chain {S R A : Type 0} (Promise : S → R → A → S → Type 0) : S → List R → List A → S → Type 0 where
+  done : {s : S} → Chain Promise s [] [] s
+  link : {s t u : S} {r : R} {a : A} {l : List R} {m : List A} → Promise s r a t → Chain Promise t l m u → Chain Promise s (r ∷ l) (a ∷ m) u

@@ -1,0 +1,1 @@
+// Laws alone: orders, the edges drawn of them, and paths.

@@ -1,0 +1,9 @@
+pub mod Seats
+pub mod Calls
+pub mod Bytes
+pub mod Records
+pub mod Images
+pub mod Saving
+pub mod Lists
+pub mod Tape
+pub mod Computes

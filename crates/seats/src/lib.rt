@@ -1,0 +1,1 @@
+// Seats, records, images and lists of calls. What each means stands in specs/.
