@@ -5,4 +5,5 @@ pub mod Drawing
 pub mod Closing
 pub mod Editing
 pub mod Refusing
+pub mod Invariants
 pub mod Computes

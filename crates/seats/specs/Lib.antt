@@ -6,4 +6,5 @@ pub mod Images
 pub mod Saving
 pub mod Lists
 pub mod Tape
+pub mod Invariants
 pub mod Computes
