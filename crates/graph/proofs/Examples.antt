@@ -76,10 +76,10 @@ direct-of-8 : direct A 8 ≡ set-of (9 ∷ 10 ∷ [])
 unfolding computes written-out
 direct-of-8 = refl
 
--- MaxRole is above a role whose set equals its own.
-equal-top : edge-count (graph-of ((1 ∷ []) ∷ [])) ≡ 2
+-- MaxRole is above a role whose set equals its own, and so nothing joins it to MinRole.
+equal-top : (edge (graph-of ((1 ∷ []) ∷ [])) 2 max-role ≡ true) × (edge-count (graph-of ((1 ∷ []) ∷ [])) ≡ 2)
 unfolding computes written-out
-equal-top = refl
+equal-top = (refl, refl)
 
 -- MaxRole's direct privileges may be non-empty: 9 and 10 where no ordinary role has them.
 direct-top : direct (record { roles = A .roles; sets = set (A .sets) 8 (set-of one-to-eight); conflicts = A .conflicts }) max-role ≡ set-of (9 ∷ 10 ∷ [])
@@ -136,6 +136,20 @@ linked = refl
 unlinked : changed A (remove-edge 4 8) .sets ≡ set (A .sets) 8 (set-of (1 ∷ 2 ∷ 4 ∷ 5 ∷ 6 ∷ 7 ∷ 8 ∷ 9 ∷ 10 ∷ []))
 unfolding computes written-out
 unlinked = refl
+
+-- Three roles, each below the next.
+unfoldable chain : Graph
+chain = graph-of ((1 ∷ []) ∷ (1 ∷ 2 ∷ []) ∷ (1 ∷ 2 ∷ 3 ∷ []) ∷ [])
+
+-- Kind 7: the junior's juniors are joined to the senior.
+junior-rejoined : changed chain (remove-edge 3 4) .sets ≡ set (chain .sets) 4 (set-of (1 ∷ 3 ∷ []))
+unfolding computes written-out chain
+junior-rejoined = refl
+
+-- Kind 7: the junior is joined to the senior's seniors.
+senior-rejoined : changed chain (remove-edge 2 3) .sets ≡ set (chain .sets) 3 (set-of (2 ∷ []))
+unfolding computes written-out chain
+senior-rejoined = refl
 
 -- ---- the refusals
 -- 2 comes before 3, whichever field has it.
