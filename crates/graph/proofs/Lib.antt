@@ -1,1 +1,12 @@
+pub mod Tables
+pub mod Order
+pub mod Refusals
+pub mod Conflicts
+pub mod Gathering
+pub mod Closing
+pub mod Drawn
+pub mod Placing
+pub mod Edits
+pub mod Changes
+pub mod Adding
 pub mod Examples

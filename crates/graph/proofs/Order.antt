@@ -61,12 +61,12 @@ module _ (g : Graph) (r : ℕ) where
   unfolding present
   end-present l = or-left (is-end r) (member r (g .roles)) (lt-is-end r l)
 
-  pub role-present : T (member r (g .roles)) → T (present g r)
+  pub member-present : T (member r (g .roles)) → T (present g r)
   unfolding present
-  role-present m = or-right (is-end r) (member r (g .roles)) m
+  member-present m = or-right (is-end r) (member r (g .roles)) m
 
   pub ordinary-present : T (ordinary g r) → T (present g r)
-  ordinary-present o = role-present (ordinary-parts o .1)
+  ordinary-present o = member-present (ordinary-parts o .1)
 
   pub ordinary-lt : g .roles < 2 ^ role-count → T (ordinary g r) → r < role-count
   ordinary-lt h o = member-lt role-count r (g .roles) h (ordinary-parts o .1)

@@ -1,8 +1,8 @@
 -- Document 01, kinds 8 and 9 and refusals 29 and 30: unordered conflicts of two privileges. A conflict stands in the entry of its lower privilege.
-use mathlib.Core.Bool.{Bool, _&&_}
+use mathlib.Core.Bool.{Bool, _&&_, _||_}
 use mathlib.Core.List.{List}
 use Prim.Native.Nat.{ℕ, min, max}
-use lib.Dec.{ltb}
+use lib.Dec.{eqb, ltb}
 use Rattle.sets.specs.Counting.{any}
 use Rattle.sets.specs.Sets.{member}
 use Rattle.graph.specs.Tables.{at, put, take-out}
@@ -15,6 +15,10 @@ conflict C lower higher = ltb lower higher && member higher (at C lower)
 -- The unordered conflict of a and b is declared.
 unfoldable pub declared : List ℕ → ℕ → ℕ → Bool
 declared C a b = conflict C (min a b) (max a b)
+
+-- The unordered pairs of p and q and of a and b are the same.
+abbrev pub same-pair : ℕ → ℕ → ℕ → ℕ → Bool
+same-pair p q a b = (eqb p a && eqb q b) || (eqb p b && eqb q a)
 
 -- A set holds both a and b.
 unfoldable pub holds-both : ℕ → ℕ → ℕ → Bool

@@ -6,14 +6,15 @@ use mathlib.Core.List.{List, [], _∷_, _++_, map}
 use Prim.Native.Nat.{suc}
 use lib.Dec.{T}
 use lib.ListN.{length}
-use Rattle.lists.specs.Runs.{run, unrefused, trace, Chain, done, link}
+use Rattle.lists.specs.Runs.{run, unrefused, trace, Each, Chain, done, link}
 
 module _ {S R A : Type 0} (step : S → R → A × S) where
   -- What every step keeps holds at the end.
-  pub run-keeps : (I : S → Type 0) → ((s : S) (r : R) → I s → I (step s r .1)) → (s : S) (l : List R) → I s → I (run step s l .1)
-  unfolding run
-  run-keeps I keep s [] i = i
-  run-keeps I keep s (r ∷ l) i = run-keeps I keep (step s r .1) l (keep s r i)
+  pub run-keeps : (Ok : R → Type 0) (I : S → Type 0) → ((s : S) (r : R) → Ok r → I s → I (step s r .1))
+      → (s : S) (l : List R) → Each Ok l → I s → I (run step s l .1)
+  unfolding run Each
+  run-keeps Ok I keep s [] o i = i
+  run-keeps Ok I keep s (r ∷ l) (o, os) i = run-keeps Ok I keep (step s r .1) l os (keep s r o i)
 
   -- One list after another: the second starts where the first ends.
   pub run-append : (s : S) (l m : List R) → run step s (l ++ m) ≡ (run step s l .0 ++ run step (run step s l .1) m .0, run step (run step s l .1) m .1)
@@ -61,12 +62,14 @@ module _ {S R A : Type 0} (step : S → R → A × S) where
         go false e same = ap (λ (p : List A × S). (step s r .0 ∷ p .0, p .1)) same
 
     -- What a part of the state is at the end, by the records that were not refused.
-    pub run-trace : {B : Type 0} (part : S → B) (change : R → B → B) (I : S → Type 0) (keep : (s : S) (r : R) → I s → I (step s r .1))
+    pub run-trace : {B : Type 0} (part : S → B) (change : R → B → B) (Ok : R → Type 0) (I : S → Type 0)
+        (keep : (s : S) (r : R) → Ok r → I s → I (step s r .1))
         (by : (s : S) (r : R) → I s → T (not (refused (step s r .0))) → part (step s r .1) ≡ change r (part s))
-        (s : S) (l : List R) → I s → part (run step s l .1) ≡ trace change (part s) (unrefused refused l (run step s l .0))
-    unfolding run unrefused trace
-    run-trace part change I keep by s [] i = refl
-    run-trace {B} part change I keep by s (r ∷ l) i = go (refused (step s r .0)) refl (run-trace part change I keep by (step s r .1) l (keep s r i))
+        (s : S) (l : List R) → Each Ok l → I s → part (run step s l .1) ≡ trace change (part s) (unrefused refused l (run step s l .0))
+    unfolding run unrefused trace Each
+    run-trace part change Ok I keep by s [] o i = refl
+    run-trace {B} part change Ok I keep by s (r ∷ l) (o, os) i =
+        go (refused (step s r .0)) refl (run-trace part change Ok I keep by (step s r .1) l os (keep s r o i))
       where
         l′ : List R
         l′ = unrefused refused l (run step (step s r .1) l .0)

@@ -21,6 +21,11 @@ unfoldable pub trace : {R B : Type 0} → (R → B → B) → B → List R → B
 trace change b [] = b
 trace change b (r ∷ l) = trace change (change r b) l
 
+-- Each entry of a list is so.
+unfoldable pub Each : {X : Type 0} → (X → Type 0) → List X → Type 0
+Each P [] = Unit {0}
+Each P (x ∷ l) = P x × Each P l
+
 -- A chain of states and answers in which each link is what the promise says of a state and a record.
 pub data Chain {S R A : Type 0} (Promise : S → R → A → S → Type 0) : S → List R → List A → S → Type 0 where
   done : {s : S} → Chain Promise s [] [] s

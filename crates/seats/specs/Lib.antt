@@ -7,4 +7,5 @@ pub mod Saving
 pub mod Lists
 pub mod Tape
 pub mod Invariants
+pub mod ListTheorem
 pub mod Computes

@@ -1,11 +1,12 @@
 -- Document 01, "Lists of calls": what a list of records makes of a state, and what its accepted calls say is present, declared and assigned.
 use mathlib.Core.Bool.{Bool, not, _&&_, _||_}
 use mathlib.Core.List.{List, [], _∷_}
-use Prim.Native.Nat.{ℕ, min, max}
+use Prim.Native.Nat.{ℕ}
 use lib.Dec.{T, eqb}
 use Rattle.lists.specs.Runs.{run, unrefused, trace}
 use Rattle.order.specs.Paths.{Path}
 use Rattle.graph.specs.Graph.{Graph}
+use Rattle.graph.specs.Conflicts.{same-pair}
 use Rattle.graph.specs.Drawing.{edge}
 use Rattle.graph.specs.Editing.{Change, add-by-place, add-by-privileges, remove-role, grant, withdraw, add-edge, remove-edge}
 use Rattle.seats.specs.Seats.{State}
@@ -45,10 +46,6 @@ presence r (lift a b) x = x
 presence r (assign a b) x = x
 presence r (unassign a b) x = x
 presence r (ask a b) x = x
-
--- The unordered pairs of p and q and of a and b are the same.
-unfoldable pub same-pair : ℕ → ℕ → ℕ → ℕ → Bool
-same-pair p q a b = (eqb p a && eqb q b) || (eqb p b && eqb q a)
 
 -- The conflict of p and q is declared from kind 8 until kind 9.
 unfoldable pub declaration : ℕ → ℕ → Call → Bool → Bool

@@ -68,10 +68,10 @@ decode l =
     malformed
 
 -- Refusal 1 at place 0 where nothing decodes; otherwise the call.
-unfoldable pub take : State → Decoded → Answer × State
-take s malformed = (refused 1 0, s)
-take s (well-formed c) = perform s c
+unfoldable pub perform-decoded : State → Decoded → Answer × State
+perform-decoded s malformed = (refused 1 0, s)
+perform-decoded s (well-formed c) = perform s c
 
 -- The step: from a state and any bytes to an answer and a state.
 unfoldable pub step : State → List ℕ → Answer × State
-step s l = take s (decode l)
+step s l = perform-decoded s (decode l)

@@ -1,0 +1,191 @@
+-- The laws of the graph as drawn from its sets: closing gives the sets back, what roles hold by paths, and which other edges make no circle.
+-- Assumes nothing.
+use mathlib.Core.Path.{_≡_, refl, sym, subst}
+use mathlib.Core.Bool.{Bool, not}
+use mathlib.Core.Logic.{_↔_, _≢_, _⊎_, inl, inr}
+use Prim.Native.Nat.{ℕ, zero, suc, _+_, _*_, _<_, _≤_, _^_}
+use native.Mathlib.Nat.{not-suc-le-zero, lt-suc-self}
+use native.Mathlib.Omega.{arith}
+use lib.Dec.{T, eqb}
+use Rattle.sets.specs.Sets.{member, included, strictly-included, gather}
+use Rattle.sets.proofs.Tests.{both, decide}
+use Rattle.sets.proofs.Laws.{included-member, difference-lt}
+use Rattle.sets.proofs.Members.{in-difference, difference-in, in-gather, no-members}
+use Rattle.order.specs.Paths.{Path, last, then, StrictOrder}
+use Rattle.order.proofs.Drawing.{_⧺_}
+use Rattle.order.proofs.Rank.{rank, rank-le, rank-lt}
+use Rattle.graph.specs.Tables.{at}
+use Rattle.graph.specs.Graph.{Graph, role-count, privilege-count, min-role, max-role, present, effective}
+use Rattle.graph.specs.Drawing.{Drawing, below, edge, direct, redraw}
+use Rattle.graph.specs.Closing.{counts, close}
+use Rattle.graph.specs.Invariants.{Formed}
+use Rattle.graph.proofs.Tables.{table-ext, entry-in, at-end}
+use Rattle.graph.proofs.Order.{Edge, from-min, to-max, inside, present-cases, member-present, below-cases, below-order, below-max, above-min, edge-below, path-iff-below}
+use Rattle.graph.proofs.Closing.{has-role, DirectsLaid, JoinsLaid, Laid, counted, count-join, closed-length, closed-by, closed-member}
+
+-- p is direct in r, or in a role from which a path leads to r.
+abbrev pub Reached : Graph → ℕ → ℕ → Type 0
+Reached g p r = (t : ℕ) × T (member p (direct g t)) × ((t ≡ r) ⊎ Path (Edge g) t r)
+
+pub in-direct : (g : Graph) (p r : ℕ) → T (member p (direct g r)) → T (member p (effective g r))
+unfolding direct
+in-direct g p r u = in-difference p (effective g r) (gather role-count (λ t. edge g t r) (effective g)) u .0
+
+-- A privilege that a role holds is direct, or some immediate junior holds it.
+pub direct-or-junior : (g : Graph) (p r : ℕ) → T (member p (effective g r)) → T (member p (direct g r)) ⊎ ((t : ℕ) × Edge g t r × T (member p (effective g t)))
+unfolding direct
+direct-or-junior g p r u =
+    let below = gather role-count (λ t. edge g t r) (effective g) in
+    elim (decide (member p below)) [
+      | inl m ↦ (let (t, _, d, x) = in-gather p role-count (λ t. edge g t r) (effective g) m in inr (t, d, x))
+      | inr n ↦ inl (difference-in p (effective g r) below u n)
+    ]
+
+module _ (g : Graph) (w : Formed g) where
+  pub order : StrictOrder role-count (present g) (below g)
+  order = below-order g (w .roles-lt)
+
+  pub effective-lt : (r : ℕ) → effective g r < 2 ^ privilege-count
+  unfolding effective
+  effective-lt r = w .sets .entry-lt r
+
+  pub below-apart : (t r : ℕ) → T (below g t r) → t ≢ r
+  below-apart t r b e = order .irreflexive r (subst (λ (i : ℕ). T (below g i r)) e b)
+
+  pub ordinary-below : (t : ℕ) → T (member t (g .roles)) → T (below g t max-role)
+  ordinary-below t m = below-max g t (member-present g t m) (let l = w .roles-ordinary t m in omega arith)
+
+  -- What lies below holds no more.
+  pub below-member : (t r p : ℕ) → T (below g t r) → T (member p (effective g t)) → T (member p (effective g r))
+  unfolding strictly-included
+  below-member t r p b u = elim (below-cases g t r b .2) [
+    | from-min e d ↦ absurd (omega (arith, held .1))
+    | to-max e d ↦
+        elim (present-cases g t (held .0)) [
+          | inl l ↦ absurd (omega (arith, held .1, d))
+          | inr o ↦ subst (λ (i : ℕ). T (member p (effective g i))) (sym e) (included-member _ _ (w .top-whole t o) p u)
+        ]
+    | inside _ _ i ↦ included-member _ _ (both (included (effective g t) (effective g r)) (not (eqb (effective g t) (effective g r))) i .0) p u
+  ]
+    where
+      held : T (present g t) × (1 ≤ t)
+      held = w .held p t u
+
+  -- ---- heights
+  -- How many roles lie below.
+  pub tall : ℕ → ℕ
+  tall = rank role-count (below g)
+
+  pub tall-lt : (t r : ℕ) → T (below g t r) → tall t < tall r
+  unfolding tall
+  tall-lt t r b = rank-lt role-count (present g) (below g) order t r b
+
+  tall-bound : (r : ℕ) → tall r ≤ role-count
+  unfolding tall
+  tall-bound r = rank-le role-count (below g) r
+
+  -- Edges that lie in the order or lead to a higher class make no circle, where the class never falls along the order.
+  pub raised : (R : ℕ) (E : ℕ → ℕ → Bool) (class : ℕ → ℕ) → ((t r : ℕ) → T (below g t r) → class t ≤ class r)
+      → ((t r : ℕ) → T (E t r) → T (below g t r) ⊎ (class t < class r))
+      → ((t : ℕ) → T (member t R) → T (below g t max-role) ⊎ (class t < class max-role))
+      → ((t r : ℕ) → T (E t r) → T (has-role R t) × T (has-role R r) × (1 ≤ r))
+      → JoinsLaid R E
+  raised R E class rises each top ends = record {
+    height = λ r. tall r + suc role-count * class r;
+    falls = λ t r x. climb t r (each t r x);
+    top = λ t m _. climb t max-role (top t m);
+    joins-from = λ t r x. ends t r x .0;
+    joins-to = λ t r x. (ends t r x .1, ends t r x .2);
+  }
+    where
+      climb : (t r : ℕ) → T (below g t r) ⊎ (class t < class r) → tall t + suc role-count * class t < tall r + suc role-count * class r
+      climb t r (inl b) = omega (arith, tall-lt t r b, rises t r b)
+      climb t r (inr l) = omega (arith, tall-bound t)
+
+  -- Edges that lie in the order make no circle.
+  pub ordered : (R : ℕ) (E : ℕ → ℕ → Bool) → ((t : ℕ) → T (member t R) → T (member t (g .roles)))
+      → ((t r : ℕ) → T (E t r) → T (below g t r))
+      → ((t r : ℕ) → T (E t r) → T (has-role R t) × T (has-role R r))
+      → JoinsLaid R E
+  ordered R E old lies ends =
+      raised R E (λ _. 0) (λ t r x. omega arith) (λ t r x. inl (lies t r x)) (λ t m. inl (ordinary-below t (old t m)))
+      (λ t r x. (ends t r x .0, ends t r x .1, above-min g t r (lies t r x)))
+
+  -- ---- the drawn graph
+  pub direct-laid : DirectsLaid (g .roles) (direct g)
+  unfolding present direct
+  direct-laid = record {
+    direct-lt = λ r. difference-lt privilege-count (effective g r) _ (effective-lt r);
+    direct-of = λ p r u. w .held p r (in-direct g p r u);
+  }
+
+  pub edges-laid : JoinsLaid (g .roles) (edge g)
+  unfolding present
+  edges-laid = ordered (g .roles) (edge g) (λ t m. m) (edge-below g) (λ t r x. order .between-present t r (edge-below g t r x))
+
+  pub laid-drawing : Laid (redraw g)
+  unfolding redraw
+  laid-drawing = record { roles-lt = w .roles-lt; roles-ordinary = w .roles-ordinary; directs = direct-laid; joins = edges-laid }
+
+  -- Closing the drawn graph gives the sets that it was drawn from.
+  pub reclosed : (r : ℕ) → r < role-count → at (close (redraw g)) r ≡ effective g r
+  unfolding redraw
+  reclosed =
+      closed-by (redraw g) laid-drawing (effective g) effective-lt
+      (λ r p u. elim (direct-or-junior g p r u) [ inl x ↦ inl x | inr (t, d, x) ↦ inr (t, count-join (redraw g) t r d, x) ])
+      (λ r p u. in-direct g p r u)
+      (λ t r p c u. below-member t r p
+      (elim (counted (redraw g) t r c) [
+        | inl d ↦ edge-below g t r d
+        | inr (e, _, m) ↦ subst (λ (i : ℕ). T (below g t i)) (sym e) (ordinary-below t m)
+      ]) u)
+
+  pub reclosed-sets : close (redraw g) ≡ g .sets
+  unfolding effective
+  reclosed-sets = table-ext role-count (close (redraw g)) (g .sets) (closed-length (redraw g)) (w .sets .whole) reclosed
+
+  -- ---- what roles hold
+  -- A role holds what is direct in it or in a role from which a path leads to it.
+  pub effective-iff : (p r : ℕ) → T (member p (effective g r)) ↔ Reached g p r
+  effective-iff p r = (find (suc (tall r)) r (lt-suc-self _), back)
+    where
+      on : (t r : ℕ) → Edge g t r → Reached g p t → Reached g p r
+      on t r d (s, x, inl e) = (s, x, inr (subst (λ (i : ℕ). Path (Edge g) i r) (sym e) (last d)))
+      on t r d (s, x, inr q) = (s, x, inr (q ⧺ last d))
+
+      find : (k r : ℕ) → tall r < k → T (member p (effective g r)) → Reached g p r
+      find zero r l u = absurd (not-suc-le-zero l)
+      find (suc k) r l u =
+          elim (direct-or-junior g p r u) [
+            | inl x ↦ (r, x, inl refl)
+            | inr (t, d, x) ↦ on t r d (find k t (omega (arith, tall-lt t r (edge-below g t r d))) x)
+          ]
+
+      back : Reached g p r → T (member p (effective g r))
+      back (t, x, inl e) = subst (λ (i : ℕ). T (member p (effective g i))) e (in-direct g p t x)
+      back (t, x, inr q) = below-member t r p (path-iff-below g (w .roles-lt) t r .0 q) (in-direct g p t x)
+
+  pub absent-empty : (r : ℕ) → (T (present g r) → ⊥) → effective g r ≡ 0
+  absent-empty r n = no-members privilege-count (effective g r) (effective-lt r) (λ p u. n (w .held p r u .0))
+
+  -- Beyond the last role number nothing is held.
+  pub beyond-empty : (r : ℕ) → role-count ≤ r → effective g r ≡ 0
+  unfolding effective
+  beyond-empty r l = at-end (g .sets) r (omega (arith, w .sets .whole))
+
+  pub min-empty : effective g min-role ≡ 0
+  min-empty = no-members privilege-count (effective g min-role) (effective-lt min-role) (λ p u. omega (arith, w .held p min-role u .1))
+
+  -- A drawing whose direct privileges are held in g, and whose counted edges lie in the order of g, closes to sets that add nothing.
+  pub closed-within : (d : Drawing) → Laid d → ((p r : ℕ) → T (member p (d .directs r)) → T (member p (effective g r)))
+      → ((t r : ℕ) → T (counts d t r) → T (below g t r))
+      → (p r : ℕ) → T (member p (at (close d) r)) → T (member p (effective g r))
+  closed-within d v own lies p r u = go (closed-member d v p r (omega (arith, entry-in (close d) r p u, closed-length d)) .0 u)
+    where
+      along : {t r : ℕ} → Path (λ u v. T (counts d u v)) t r → T (below g t r)
+      along (last {r = t} {s = r} c) = lies t r c
+      along (then {r = t} {t = s} {s = r} c q) = order .transitive t s r (lies t s c) (along q)
+
+      go : (t : ℕ) × T (member p (d .directs t)) × ((t ≡ r) ⊎ Path (λ u v. T (counts d u v)) t r) → T (member p (effective g r))
+      go (t, x, inl e) = subst (λ (i : ℕ). T (member p (effective g i))) e (own p t x)
+      go (t, x, inr q) = below-member t r p (along q) (own p t x)

@@ -1,0 +1,110 @@
+-- One call: it is refused and leaves the state, or nothing refuses it and it leaves the state after it.
+-- Assumes nothing.
+use mathlib.Core.Path.{_≡_, refl, sym, ap, _∙_, subst}
+use mathlib.Core.Bool.{Bool, true, false, not}
+use mathlib.Core.Logic.{_⊎_, inl, inr}
+use mathlib.Core.List.{List, [], _∷_, _++_}
+use Prim.Native.Nat.{ℕ}
+use lib.Dec.{T}
+use Rattle.graph.specs.Editing.{Change, add-by-place, add-by-privileges, remove-role, grant, withdraw, add-edge, remove-edge}
+use Rattle.graph.specs.Refusing.{Check, Verdict, passed, verdict, input-checks, state-checks, still-below, closed-checks, declare-checks, lift-checks}
+use Rattle.graph.specs.Refusing as refusing
+use Rattle.graph.proofs.Refusals.{Passes, passed-passes, verdict-passes, ascending-numbers, ascending-from}
+use Rattle.seats.specs.Seats.{State}
+use Rattle.seats.specs.Calls.{Call, change, declare, lift, assign, unassign, ask, Answer, accepted, answered, refused, seat-checks, checks, after, reply, settle, perform, is-refusal}
+use Rattle.seats.specs.Records.{Decoded, malformed, well-formed, decode, perform-decoded, step}
+
+-- A refusal of the call, with its number and place, that leaves the state.
+pub record Refused (s : State) (c : Call) : Type 0 where
+  pub number : ℕ
+  pub place : ℕ
+  pub by-verdict : verdict (checks s c (after s c)) ≡ refusing.refused number place
+  pub answer : perform s c ≡ (refused number place, s)
+
+-- Nothing refuses the call.
+pub record Accepted (s : State) (c : Call) : Type 0 where
+  pub passes : Passes (checks s c (after s c))
+  pub answer : perform s c ≡ (reply s c, after s c)
+
+pub settled : (s : State) (c : Call) → Refused s c ⊎ Accepted s c
+unfolding perform settle
+settled s c = go (verdict (checks s c (after s c))) refl
+  where
+    go : (v : Verdict) → verdict (checks s c (after s c)) ≡ v → Refused s c ⊎ Accepted s c
+    go passed e = inr (record {
+      passes = passed-passes (checks s c (after s c)) e;
+      answer = ap (λ (v : Verdict). settle v (reply s c) s (after s c)) e;
+    })
+    go (refusing.refused n p) e = inl (record {
+      number = n;
+      place = p;
+      by-verdict = e;
+      answer = ap (λ (v : Verdict). settle v (reply s c) s (after s c)) e;
+    })
+
+-- A call that nothing refuses is accepted.
+pub accepted-by : (s : State) (c : Call) → Passes (checks s c (after s c)) → perform s c ≡ (reply s c, after s c)
+unfolding perform settle
+accepted-by s c t = ap (λ (v : Verdict). settle v (reply s c) s (after s c)) (verdict-passes (checks s c (after s c)) t)
+
+reply-no-refusal : (s : State) (c : Call) → T (is-refusal (reply s c)) → ⊥
+unfolding reply is-refusal
+reply-no-refusal s (change c) t = t
+reply-no-refusal s (declare a b) t = t
+reply-no-refusal s (lift a b) t = t
+reply-no-refusal s (assign a b) t = t
+reply-no-refusal s (unassign a b) t = t
+reply-no-refusal s (ask a b) t = t
+
+pub perform-refused : (s : State) (c : Call) → T (is-refusal (perform s c .0)) → perform s c .1 ≡ s
+perform-refused s c t = elim (settled s c) [
+  | inl r ↦ ap (λ (z : Answer × State). z .1) (r .answer)
+  | inr a ↦ absurd (reply-no-refusal s c (subst (λ (z : Answer × State). T (is-refusal (z .0))) (a .answer) t))
+]
+
+pub perform-accepted : (s : State) (c : Call) → T (not (is-refusal (perform s c .0))) → Accepted s c
+unfolding is-refusal
+perform-accepted s c t = elim (settled s c) [
+  | inl r ↦ absurd (subst (λ (z : Answer × State). T (not (is-refusal (z .0)))) (r .answer) t)
+  | inr a ↦ a
+]
+
+-- ---- records of any bytes
+-- A refused record leaves the state exactly as it was.
+pub refused-leaves : (s : State) (l : List ℕ) → T (is-refusal (step s l .0)) → step s l .1 ≡ s
+unfolding step perform-decoded
+refused-leaves s l = go (decode l)
+  where
+    go : (d : Decoded) → T (is-refusal (perform-decoded s d .0)) → perform-decoded s d .1 ≡ s
+    go malformed t = refl
+    go (well-formed c) t = perform-refused s c t
+
+-- A record that is not refused carries a call that is accepted.
+pub record Carries (s : State) (l : List ℕ) : Type 0 where
+  pub call : Call
+  pub decodes : decode l ≡ well-formed call
+  pub accepts : Accepted s call
+
+pub accepted-carries : (s : State) (l : List ℕ) → T (not (is-refusal (step s l .0))) → Carries s l
+unfolding step perform-decoded is-refusal
+accepted-carries s l = go (decode l) refl
+  where
+    go : (d : Decoded) → decode l ≡ d → T (not (is-refusal (perform-decoded s d .0))) → Carries s l
+    go malformed e t = absurd t
+    go (well-formed c) e t = record { call = c; decodes = e; accepts = perform-accepted s c t }
+
+-- ---- the lowest number wins: every call's checks stand in the order of their numbers
+pub checks-ascend : (s : State) (c : Call) (h : State) → ascending-numbers (checks s c h) ≡ true
+unfolding ascending-numbers ascending-from checks input-checks state-checks seat-checks still-below closed-checks declare-checks lift-checks
+checks-ascend s (change (add-by-place a own juniors seniors)) h = refl
+checks-ascend s (change (add-by-privileges a own)) h = refl
+checks-ascend s (change (remove-role a b)) h = refl
+checks-ascend s (change (grant a b)) h = refl
+checks-ascend s (change (withdraw a b)) h = refl
+checks-ascend s (change (add-edge a b)) h = refl
+checks-ascend s (change (remove-edge a b)) h = refl
+checks-ascend s (declare a b) h = refl
+checks-ascend s (lift a b) h = refl
+checks-ascend s (assign a b) h = refl
+checks-ascend s (unassign a b) h = refl
+checks-ascend s (ask a b) h = refl
