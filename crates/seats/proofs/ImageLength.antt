@@ -1,0 +1,124 @@
+-- How long an image is, at most how long, and that it is made of bytes.
+-- Assumes nothing.
+use mathlib.Core.Path.{_≡_, refl, ap, _∙_}
+use mathlib.Core.Bool.{Bool, not}
+use mathlib.Core.Logic.{inl, inr}
+use mathlib.Core.List.{List}
+use Prim.Native.Nat.{ℕ, zero, suc, _+_, _/_, _%_, _<_, _≤_}
+use native.Mathlib.Nat.{zero-add, add-zero}
+use native.Mathlib.Omega.{arith}
+use lib.ListN.{length, length-append}
+use lib.Dec.{ltb, ltb→lt}
+use Rattle.sets.specs.Counting.{count}
+use Rattle.sets.specs.Sets.{member}
+use Rattle.sets.proofs.Tests.{both, passes, fails, decide}
+use Rattle.sets.proofs.Counting.{count-le, count-bound}
+use Rattle.graph.specs.Tables.{at}
+use Rattle.graph.specs.Graph.{Graph, is-end, ordinary, effective}
+use Rattle.graph.specs.Conflicts.{conflict}
+use Rattle.graph.proofs.Order.{ordinary-parts}
+use Rattle.seats.specs.Bytes.{bytes-of, Bytes}
+use Rattle.seats.specs.Seats.{State}
+use Rattle.seats.specs.Images.{Entry, listed-from, role-entries, conflict-entries, seat-entries, entry-bytes, distance, trailer, parts, image}
+use Rattle.seats.proofs.Numbers.{bytes-append, length-bytes-of, bytes-of-bytes}
+use Rattle.seats.proofs.Entries.{Each, each-map, length-entry-bytes, entry-bytes-bytes}
+use Rattle.seats.proofs.Listing.{valued, each-listed}
+use Rattle.seats.proofs.Stores.{filled}
+
+pub length-trailer : (r s c : ℕ) → length (trailer r s c) ≡ 8
+unfolding trailer bytes-of
+length-trailer r s c = refl
+
+pub length-parts : (top : ℕ) (R C S : List Entry) → length (parts top R C S) ≡ distance (length R) (length S) (length C)
+unfolding parts distance
+length-parts top R C S =
+    let a = length-bytes-of 8 top in
+    let b = length-entry-bytes 8 R in
+    let c = length-entry-bytes 1 C in
+    let d = length-entry-bytes 8 S in
+    let e = length-trailer (length R) (length S) (length C) in
+    simp length-append (omega arith)
+
+pub image-length : (s : State) → length (image s) ≡ distance (length (role-entries (s .graph))) (length (seat-entries s)) (length (conflict-entries (s .graph)))
+unfolding image
+image-length s = length-parts (effective (s .graph) 1) (role-entries (s .graph)) (conflict-entries (s .graph)) (seat-entries s)
+
+-- ---- at most how long
+-- The entries listed from i on and the places before i that have one are the places that have one.
+counted-from : (has : ℕ → Bool) (entry : ℕ → Entry) (i n : ℕ) → length (listed-from i n has entry) + count i has ≡ count (i + n) has
+unfolding listed-from count
+counted-from has entry i zero = rw (add-zero, zero-add)
+counted-from has entry i (suc n) =
+    let e : i + suc n ≡ suc i + n = omega arith in
+    let r = counted-from has entry (suc i) n in
+    rw e (elim (decide (has i)) [
+      | inl t ↦ rw (passes (has i) t) (omega (arith, rw (passes (has i) t) at r))
+      | inr f ↦ rw (fails (has i) f) (omega (arith, rw (fails (has i) f) at r))
+    ])
+
+-- As many entries are listed as places have one.
+pub length-listed : (has : ℕ → Bool) (entry : ℕ → Entry) (n : ℕ) → length (listed-from 0 n has entry) ≡ count n has
+unfolding count
+length-listed has entry n = omega (arith, counted-from has entry 0 n ∙ ap (λ (k : ℕ). count k has) (zero-add n))
+
+pub roles-bound : (g : Graph) → length (role-entries g) ≤ 62
+unfolding role-entries ordinary is-end count
+roles-bound g =
+    let most : count 64 (λ r. not (is-end r)) ≡ 62 = refl in
+    let le = count-le 64 (ordinary g) (λ r. not (is-end r)) (λ r l t. both (not (is-end r)) (member r (g .roles)) t .0) in
+    omega (arith, length-listed (ordinary g) (valued (effective g)) 64)
+
+pub seats-bound : (s : State) → length (seat-entries s) ≤ 64
+unfolding seat-entries
+seats-bound s =
+    omega (arith, length-listed (filled (s .seats)) (valued (at (s .seats))) 64, count-bound 64 (filled (s .seats)))
+
+ordered-pairs : count 4096 (λ k. ltb (k / 64) (k % 64)) ≡ 2016
+unfolding count
+ordered-pairs = refl
+
+pub conflicts-bound : (g : Graph) → length (conflict-entries g) ≤ 2016
+unfolding conflict-entries conflict
+conflicts-bound g =
+    let has : ℕ → Bool = λ k. conflict (g .conflicts) (k / 64) (k % 64) in
+    let most = ordered-pairs in
+    let le = count-le 4096 has (λ k. ltb (k / 64) (k % 64)) (λ k l t. both (ltb (k / 64) (k % 64)) (member (k % 64) (at (g .conflicts) (k / 64))) t .0) in
+    omega (arith, length-listed has (λ k. record { key = k / 64; value = k % 64 }) 4096)
+
+pub image-bound : (s : State) → length (image s) ≤ 5182
+unfolding distance
+image-bound s = omega (arith, image-length s, roles-bound (s .graph), seats-bound s, conflicts-bound (s .graph))
+
+-- ---- bytes
+-- The number of a role entry is that of an ordinary role.
+pub role-keys : (g : Graph) → Each (λ e. (2 ≤ e .key) × (e .key < 64)) (role-entries g)
+unfolding role-entries
+role-keys g =
+    each-listed (ordinary g) (valued (effective g)) (λ e. (2 ≤ e .key) × (e .key < 64)) 0 64 (λ k l t. (ordinary-parts g k t .0, omega arith))
+
+pub seat-keys : (s : State) → Each (λ e. e .key < 64) (seat-entries s)
+unfolding seat-entries
+seat-keys s = each-listed (filled (s .seats)) (valued (at (s .seats))) (λ e. e .key < 64) 0 64 (λ k l t. omega arith)
+
+pub conflict-pairs : (g : Graph) → Each (λ e. (e .key < e .value) × (e .value < 64)) (conflict-entries g)
+unfolding conflict-entries conflict
+conflict-pairs g =
+    each-listed (λ k. conflict (g .conflicts) (k / 64) (k % 64)) (λ k. record { key = k / 64; value = k % 64 }) (λ e. (e .key < e .value) × (e .value < 64)) 0 4096
+    (λ k l t. (ltb→lt (k / 64) (k % 64) (both (ltb (k / 64) (k % 64)) (member (k % 64) (at (g .conflicts) (k / 64))) t .0), omega arith))
+
+pub trailer-bytes : (r s c : ℕ) → Bytes (trailer r s c)
+unfolding trailer
+trailer-bytes r s c =
+    bytes-append (bytes-of 4 (distance r s c)) _ (bytes-of-bytes 4 (distance r s c))
+    (bytes-append (bytes-of 1 r) _ (bytes-of-bytes 1 r) (bytes-append (bytes-of 1 s) (bytes-of 2 c) (bytes-of-bytes 1 s) (bytes-of-bytes 2 c)))
+
+pub image-bytes : (s : State) → Bytes (image s)
+unfolding image parts
+image-bytes s =
+    let R = role-entries (s .graph) in
+    let C = conflict-entries (s .graph) in
+    let S = seat-entries s in
+    bytes-append (bytes-of 8 (effective (s .graph) 1)) _ (bytes-of-bytes 8 (effective (s .graph) 1))
+    (bytes-append (entry-bytes 8 R) _ (entry-bytes-bytes 8 R (each-map R (λ e p. let a = p .1 in omega arith) (role-keys (s .graph))))
+    (bytes-append (entry-bytes 1 C) _ (entry-bytes-bytes 1 C (each-map C (λ e p. let a = p .0 in let b = p .1 in omega arith) (conflict-pairs (s .graph))))
+    (bytes-append (entry-bytes 8 S) _ (entry-bytes-bytes 8 S (each-map S (λ e p. omega arith) (seat-keys s))) (trailer-bytes (length R) (length S) (length C)))))

@@ -1,0 +1,110 @@
+-- What a load that gives a state has found: its trailer, contents that no check refuses, and the state that they describe.
+-- Assumes nothing.
+use mathlib.Core.Path.{_≡_, refl, sym, ap, _∙_}
+use mathlib.Core.Bool.{Bool, true, false, not, cond, _&&_, _||_}
+use mathlib.Core.List.{List, _++_}
+use Prim.Native.Nat.{ℕ, suc, _-_, _<_, _≤_}
+use native.Mathlib.Omega.{arith}
+use lib.ListN.{length}
+use lib.Dec.{T, not-T, eqb, leb, leb→le, ltb}
+use Rattle.sets.specs.Sets.{empty, included}
+use Rattle.sets.proofs.Tests.{both, or-left, or-right, so, test-equal}
+use Rattle.graph.specs.Graph.{role-count, is-end}
+use Rattle.graph.specs.Refusing.{Verdict, passed, refused, verdict}
+use Rattle.seats.specs.Bytes.{number-at}
+use Rattle.seats.specs.Seats.{State, seat-count}
+use Rattle.seats.specs.Images.{Entry, distance, Contents, contents, keys, restored, pair-place, no-ordinary-number, entry-checks, content-checks, Loaded, loaded, not-loaded, unless-refused, load-contents, load-trailer, load}
+use Rattle.graph.proofs.Refusals.{Passes, parts, passed-passes, number-lt}
+use Rattle.seats.proofs.Entries.{Each, each-map, each-zip}
+use Rattle.seats.proofs.Listing.{Rising, ordered-rising, none-each}
+use Rattle.seats.proofs.Pairs.{Pair}
+use Rattle.seats.proofs.ImageReading.{Says}
+
+-- The trailer and the contents of bytes that load.
+pub record Found (l : List ℕ) (s : State) : Type 0 where
+  pub roles : ℕ
+  pub seats : ℕ
+  pub conflicts : ℕ
+  pub says : Says l (length l) roles seats conflicts
+  pub fits : distance roles seats conflicts ≤ length l
+  pub loads : load-contents (contents l (length l - distance roles seats conflicts) roles seats conflicts) ≡ loaded s
+
+pub found : (l : List ℕ) (s : State) → load l ≡ loaded s → Found l s
+unfolding load load-trailer
+found l s e =
+    let end = length l in
+    let far = number-at 4 (end - 8) l in
+    let r = number-at 1 (end - 4) l in
+    let n = number-at 1 (end - 3) l in
+    let c = number-at 2 (end - 2) l in
+    let x = otherwise (ltb end 16) _ e in
+    let y = where-so (eqb far (distance r n c) && leb far end) _ x in
+    let z = both (eqb far (distance r n c)) (leb far end) (y .0) in
+    let q : far ≡ distance r n c = test-equal (z .0) in
+    let k = leb→le far end (z .1) in
+    record {
+      roles = r;
+      seats = n;
+      conflicts = c;
+      says = record { far = q; roles = refl; seats = refl; conflicts = refl };
+      fits = omega arith;
+      loads = ap (λ (d : ℕ). load-contents (contents l (end - d) r n c)) (sym q) ∙ y .1;
+    }
+  where
+    where-so : (b : Bool) (x : Loaded) → cond b x (not-loaded 6 0) ≡ loaded s → T b × (x ≡ loaded s)
+    where-so true x e = (tt, e)
+    where-so false x e = absurd (let z : _≡_ {A = ℕ} 0 1 = cc in omega arith)
+
+    otherwise : (b : Bool) (x : Loaded) → cond b (not-loaded 6 0) x ≡ loaded s → x ≡ loaded s
+    otherwise true x e = absurd (let z : _≡_ {A = ℕ} 0 1 = cc in omega arith)
+    otherwise false x e = e
+
+-- Contents that load: no check refuses, and the state is the one that they describe.
+pub record Accepted (c : Contents) (s : State) : Type 0 where
+  pub entries : Passes (entry-checks c)
+  pub state : Passes (content-checks (restored c))
+  pub same : restored c ≡ s
+
+pub accepted : (c : Contents) (s : State) → load-contents c ≡ loaded s → Accepted c s
+unfolding load-contents unless-refused
+accepted c s e =
+    let l = entry-checks c in
+    let m = content-checks (restored c) in
+    let x = unrefused (verdict (l ++ m)) e in
+    let p = parts l m (passed-passes (l ++ m) (x .0)) in
+    record { entries = p .0; state = p .1; same = x .1 }
+  where
+    unrefused : (d : Verdict) → unless-refused d (restored c) ≡ loaded s → (d ≡ passed) × (restored c ≡ s)
+    unrefused passed e = (refl, cc)
+    unrefused (refused n p) e = absurd (let z : _≡_ {A = ℕ} 0 1 = cc in omega arith)
+
+-- What the checks of the entries say.
+pub record Ordered (c : Contents) : Type 0 where
+  pub roles-rise : Rising Entry.key 0 (c .roles)
+  pub roles : Each (λ e. (2 ≤ e .key) × (e .key < role-count)) (c .roles)
+  pub conflicts-rise : Rising pair-place 0 (c .conflicts)
+  pub conflicts : Each Pair (c .conflicts)
+  pub seats-rise : Rising Entry.key 0 (c .seats)
+  pub seats : Each (λ e. (e .key < seat-count) × T (not (eqb (e .value) empty)) × T (included (e .value) (keys (c .roles)))) (c .seats)
+
+pub ordered : (c : Contents) → Passes (entry-checks c) → Ordered c
+unfolding Passes entry-checks no-ordinary-number is-end
+ordered c (no-roles, (no-pairs, (no-seats, (R, (C, (S, (lower, (none, (absent, _))))))))) = record {
+  roles-rise = ordered-rising Entry.key (c .roles) R;
+  roles = each-map (c .roles) role (none-each no-ordinary-number (c .roles) no-roles);
+  conflicts-rise = ordered-rising pair-place (c .conflicts) C;
+  conflicts =
+      each-zip (c .conflicts)
+      (λ e x y. (number-lt (e .value) (e .key) y, number-lt 64 (e .value) (λ t. x (or-right (leb 64 (e .key)) (leb 64 (e .value)) t))))
+      (none-each _ (c .conflicts) no-pairs) (none-each _ (c .conflicts) lower);
+  seats-rise = ordered-rising Entry.key (c .seats) S;
+  seats =
+      each-zip (c .seats) (λ e x y. (number-lt 64 (e .key) x, y .0, y .1)) (none-each _ (c .seats) no-seats)
+      (each-zip {R = λ e. T (not (eqb (e .value) empty)) × T (included (e .value) (keys (c .roles)))} (c .seats)
+      (λ e x y. (not-T (eqb (e .value) empty) x, so (included (e .value) (keys (c .roles))) y)) (none-each _ (c .seats) none) (none-each _ (c .seats) absent));
+}
+  where
+    role : (e : Entry) → (T (ltb (e .key) 2 || leb 64 (e .key)) → ⊥) → (2 ≤ e .key) × (e .key < 64)
+    role e f =
+        let h = number-lt (suc (e .key)) 2 (λ t. f (or-left (ltb (e .key) 2) (leb 64 (e .key)) t)) in
+        (omega arith, number-lt 64 (e .key) (λ t. f (or-right (ltb (e .key) 2) (leb 64 (e .key)) t)))

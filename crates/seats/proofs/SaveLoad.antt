@@ -1,0 +1,176 @@
+-- Saving, then loading: an image that ends any bytes loads as the state saved.
+-- Assumes nothing.
+use mathlib.Core.Path.{_≡_, refl, sym, _∙_, subst}
+use mathlib.Core.Bool.{not, _&&_, _||_}
+use mathlib.Core.Logic.{_⊎_, inl, inr}
+use mathlib.Core.List.{List, _++_}
+use Prim.Native.Nat.{ℕ, _^_, _<_, _≤_}
+use native.Mathlib.Decide.{ℕ-discrete}
+use native.Mathlib.Omega.{arith}
+use lib.ListN.{set, replicate}
+use lib.Seq.{getD-set-other}
+use lib.Dec.{T, T-not, eqb, leb, leb→le, ltb, ltb→lt}
+use Rattle.sets.specs.Counting.{any}
+use Rattle.sets.specs.Sets.{empty, member, included}
+use Rattle.sets.proofs.Tests.{both, either, so, test-equal}
+use Rattle.sets.proofs.Counting.{any-some}
+use Rattle.sets.proofs.Laws.{member-lt, member-included}
+use Rattle.sets.proofs.Members.{same-members, no-members}
+use Rattle.graph.specs.Tables.{at}
+use Rattle.graph.specs.Graph.{Graph, role-count, max-role, is-end, ordinary, effective}
+use Rattle.graph.specs.Refusing.{closed-checks}
+use Rattle.graph.specs.Invariants.{Formed}
+use Rattle.graph.proofs.Tables.{at-replicate}
+use Rattle.graph.proofs.Order.{ordinary-parts, ordinary-join, present-cases}
+use Rattle.seats.specs.Seats.{State, seat-count, assigned, pair-seat}
+use Rattle.seats.specs.Images.{Entry, role-entries, conflict-entries, seat-entries, image, Contents, keys, stored, restored, pair-place, no-ordinary-number, entry-checks, content-checks, loaded, unless-refused, load-contents, load}
+use Rattle.seats.specs.Invariants.{Invariant}
+use Rattle.graph.proofs.Refusals.{Passes, whole, verdict-passes, closed-goes}
+use Rattle.seats.proofs.Entries.{Each, each-map}
+use Rattle.seats.proofs.Listing.{valued, rising-by, rising-ordered, some-one, each-none, each-listed, rising-listed, listed-there}
+use Rattle.seats.proofs.Stores.{filled, member-keys, keys-lt, listed-stored}
+use Rattle.seats.proofs.Pairs.{Pair, pair-number, pair-at, has-pair, listed-pairs}
+use Rattle.seats.proofs.ImageLength.{role-keys, conflict-pairs, roles-bound, seats-bound, conflicts-bound}
+use Rattle.seats.proofs.ImageReading.{made-of, parts-load}
+
+-- What saving writes.
+abbrev pub saved : State → Contents
+saved s = made-of (effective (s .graph) max-role) (role-entries (s .graph)) (conflict-entries (s .graph)) (seat-entries s)
+
+-- ---- the state that an image's entries describe is the one saved
+module _ (g : Graph) (f : Formed g) where
+  roles-again : keys (role-entries g) ≡ g .roles
+  unfolding role-entries
+  roles-again = same-members 64 (keys (role-entries g)) (g .roles) (keys-lt 64 (role-entries g) (each-map (role-entries g) (λ e x. x .1) (role-keys g))) (f .roles-lt) to back
+    where
+      to : (p : ℕ) → T (member p (keys (role-entries g))) → T (member p (g .roles))
+      to p m =
+          let known : Each (λ e. T (member (e .key) (g .roles))) (role-entries g) = each-listed (ordinary g) (valued (effective g)) (λ e. T (member (e .key) (g .roles))) 0 64 (λ k l t. ordinary-parts g k t .1) in
+          let z = some-one (λ e. eqb p (e .key)) (role-entries g) (subst T (member-keys p (role-entries g)) m) known in
+          subst (λ (r : ℕ). T (member r (g .roles))) (sym (test-equal (z .1))) (z .2)
+
+      back : (p : ℕ) → T (member p (g .roles)) → T (member p (keys (role-entries g)))
+      back p m =
+          let l = member-lt 64 p (g .roles) (f .roles-lt) m in
+          subst T (sym (member-keys p (role-entries g)))
+          (listed-there (ordinary g) (valued (effective g)) Entry.key (λ i. refl) 0 64 p (omega arith) (omega arith) (ordinary-join g p (f .roles-ordinary p m) m))
+
+  sets-again : stored (role-entries g) (set (replicate role-count empty) max-role (effective g max-role)) ≡ g .sets
+  unfolding role-entries effective at
+  sets-again = listed-stored 64 (ordinary g) (g .sets) _ (f .sets .whole) refl other
+    where
+      -- a role that is not ordinary, nor MaxRole, holds nothing
+      nothing : (k : ℕ) → (T (ordinary g k) → ⊥) → (k ≡ 1 → ⊥) → (p : ℕ) → T (member p (at (g .sets) k)) → ⊥
+      nothing k none d p m =
+          let h = f .held p k m in
+          let l = h .1 in
+          elim (present-cases g k (h .0)) [ inl q ↦ d (omega arith) | inr t ↦ none t ]
+
+      other : (k : ℕ) → (T (ordinary g k) → ⊥) → at (set (replicate 64 0) 1 (at (g .sets) 1)) k ≡ at (g .sets) k
+      other k none =
+          elim (ℕ-discrete k 1) [
+            | yes q ↦ subst (λ (j : ℕ). at (set (replicate 64 0) 1 (at (g .sets) 1)) j ≡ at (g .sets) j) (sym q) refl
+            | no d ↦
+                getD-set-other (replicate 64 0) 1 k (at (g .sets) 1) 0 d
+                ∙ at-replicate 64 k
+                ∙ sym (no-members 64 (at (g .sets) k) (f .sets .entry-lt k) (nothing k none d))
+          ]
+
+module _ (s : State) (v : Invariant s) where
+  seats-again : stored (seat-entries s) (replicate seat-count empty) ≡ s .seats
+  unfolding seat-entries
+  seats-again =
+      listed-stored 64 (filled (s .seats)) (s .seats) (replicate 64 0) (v .seats .whole) refl
+      (λ k none. at-replicate 64 k ∙ sym (test-equal (so (eqb (at (s .seats) k) empty) none)))
+
+  restored-saved : restored (saved s) ≡ s
+  unfolding restored conflict-entries
+  restored-saved =
+      let f = v .graph .formed in
+      λ i. record {
+        graph = record { roles = roles-again (s .graph) f i; sets = sets-again (s .graph) f i; conflicts = listed-pairs (s .graph .conflicts) (v .graph .paired) i };
+        seats = seats-again i;
+      }
+
+  -- ---- nothing refuses what was saved
+  seat-facts : Each (λ e. (e .key < seat-count) × T (not (eqb (e .value) empty)) × T (included (e .value) (keys (role-entries (s .graph))))) (seat-entries s)
+  unfolding seat-entries assigned
+  seat-facts =
+      each-listed (filled (s .seats)) (valued (at (s .seats)))
+      (λ e. (e .key < 64) × T (not (eqb (e .value) empty)) × T (included (e .value) (keys (role-entries (s .graph))))) 0 64
+      (λ k l t. (
+        omega arith,
+        t,
+        rw (roles-again (s .graph) (v .graph .formed))
+            (member-included 64 (at (s .seats) k) (s .graph .roles) (v .seats .entry-lt k) (λ r l m. ordinary-parts (s .graph) r (v .seated k r m) .1)),
+      ))
+
+  entries-pass : Passes (entry-checks (saved s))
+  unfolding Passes entry-checks no-ordinary-number is-end role-entries seat-entries conflict-entries pair-place
+  entries-pass =
+      let g = s .graph in
+      let R = role-entries g in
+      let C = conflict-entries g in
+      let S = seat-entries s in
+      let roles = each-none no-ordinary-number R (each-map R (λ e p t. no-role e p (either (is-end (e .key)) (leb 64 (e .key)) t)) (role-keys g)) in
+      let pairs =
+      each-none (λ e. leb 64 (e .key) || leb 64 (e .value)) C (each-map C (λ e p t. no-pair e p (either (leb 64 (e .key)) (leb 64 (e .value)) t)) (conflict-pairs g)) in
+      let seats = each-none (λ e. leb 64 (e .key)) S (each-map S (λ e p t. let a = p .0 in let b = leb→le 64 (e .key) t in omega arith) seat-facts) in
+      let roles-rise = rising-ordered Entry.key 0 R (rising-listed (ordinary g) (valued (effective g)) Entry.key (λ i. refl) 0 64) in
+      let pairs-rise =
+      rising-ordered pair-place 0 C
+      (rising-by pair-number pair-place Pair (λ e f x y m. let a = x .1 in let b = y .1 in omega arith) C (conflict-pairs g)
+      (rising-listed (has-pair (g .conflicts)) pair-at pair-number (λ i. omega arith) 0 4096)) in
+      let seats-rise = rising-ordered Entry.key 0 S (rising-listed (filled (s .seats)) (valued (at (s .seats))) Entry.key (λ i. refl) 0 64) in
+      let lower = each-none (λ e. leb (e .value) (e .key)) C (each-map C (λ e p t. let a = p .0 in let b = leb→le (e .value) (e .key) t in omega arith) (conflict-pairs g)) in
+      let some-role = each-none (λ e. eqb (e .value) empty) S (each-map S (λ e p. T-not (eqb (e .value) empty) (p .1)) seat-facts) in
+      let present-roles = each-none (λ e. not (included (e .value) (keys R))) S (each-map S (λ e p t. T-not (included (e .value) (keys R)) t (p .2)) seat-facts) in
+      (roles, (pairs, (seats, (roles-rise, (pairs-rise, (seats-rise, (lower, (some-role, (present-roles, tt)))))))))
+    where
+      no-role : (e : Entry) → (2 ≤ e .key) × (e .key < 64) → T (ltb (e .key) 2) ⊎ T (leb 64 (e .key)) → ⊥
+      no-role e p (inl t) = let a = p .0 in let b = ltb→lt (e .key) 2 t in omega arith
+      no-role e p (inr t) = let a = p .1 in let b = leb→le 64 (e .key) t in omega arith
+
+      no-pair : (e : Entry) → Pair e → T (leb 64 (e .key)) ⊎ T (leb 64 (e .value)) → ⊥
+      no-pair e p (inl t) = let a = p .0 in let c = p .1 in let b = leb→le 64 (e .key) t in omega arith
+      no-pair e p (inr t) = let a = p .1 in let b = leb→le 64 (e .value) t in omega arith
+
+  state-passes : Passes (content-checks s)
+  unfolding Passes content-checks closed-checks
+  state-passes =
+      let (empty-none, (twin-none, (pair-none, _))) = closed-goes g (v .graph .distinct) (v .graph .pair-free) in
+      (empty-none, (twin-none, (pair-none, (seat-none, (top-none, tt)))))
+    where
+      g : Graph
+      g = s .graph
+
+      seat-none : T (any 64 (pair-seat s)) → ⊥
+      seat-none t =
+          let (i, l, x) = any-some 64 (pair-seat s) t in
+          v .seat-free i l x
+
+      top-none : T (any 64 (λ r. ordinary g r && not (included (effective g r) (effective g max-role)))) → ⊥
+      top-none t =
+          let (r, l, x) = any-some 64 (λ r. ordinary g r && not (included (effective g r) (effective g max-role))) t in
+          let (o, n) = both (ordinary g r) (not (included (effective g r) (effective g max-role))) x in
+          T-not (included (effective g r) (effective g max-role)) n (v .graph .formed .top-whole r o)
+
+  contents-load : load-contents (saved s) ≡ loaded s
+  unfolding load-contents unless-refused
+  contents-load =
+      rw restored-saved (rw (verdict-passes (entry-checks (saved s) ++ content-checks s) (whole (entry-checks (saved s)) (content-checks s) entries-pass state-passes)))
+
+  pub loads-back : (before : List ℕ) → load (before ++ image s) ≡ loaded s
+  unfolding image role-entries seat-entries effective
+  loads-back before =
+      let g = s .graph in
+      parts-load before (effective g max-role) (role-entries g) (conflict-entries g) (seat-entries s)
+      (set-lt max-role)
+      (each-listed (ordinary g) (valued (effective g)) (λ e. e .value < 256 ^ 8) 0 64 (λ k l t. set-lt k))
+      (each-map (conflict-entries g) (λ e p. let a = p .1 in omega arith) (conflict-pairs g))
+      (each-listed (filled (s .seats)) (valued (at (s .seats))) (λ e. e .value < 256 ^ 8) 0 64 (λ k l t. v .seats .entry-lt k))
+      (omega (arith, roles-bound g)) (omega (arith, conflicts-bound g)) (omega (arith, seats-bound s))
+      ∙ contents-load
+    where
+      set-lt : (r : ℕ) → effective (s .graph) r < 256 ^ 8
+      set-lt r = v .graph .formed .sets .entry-lt r
