@@ -49,6 +49,10 @@ size w s = count w (λ n. member n s)
 unfoldable pub lowest-member : ℕ → ℕ → ℕ
 lowest-member w s = lowest w (λ n. member n s)
 
+-- The set without its lowest member below w.
+unfoldable pub without-lowest : ℕ → ℕ → ℕ
+without-lowest w s = difference s (single (lowest-member w s))
+
 -- s where the test passes, and the empty set where it does not.
 unfoldable pub when : Bool → ℕ → ℕ
 when c s = cond c s empty
