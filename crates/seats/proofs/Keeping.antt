@@ -24,7 +24,7 @@ use Rattle.graph.proofs.Tables.{entry-in, put-test, put-table, take-out-test, t
 use Rattle.graph.proofs.Order.{ordinary-parts, ordinary-join, ordinary-lt, not-end, present-cases}
 use Rattle.graph.proofs.Conflicts.{conflict-parts, conflict-join, pair-found, pair-holds, pair-more, declared-in-order, declared-swap, declare-test, lift-test, declare-paired, lift-paired, conflict-lt}
 use Rattle.graph.proofs.Edits.{Fits, changed-formed}
-use Rattle.graph.proofs.Refusals.{Passes, parts, number-lt, not-equal, closed-from}
+use Rattle.graph.proofs.Refusals.{Passes, parts, number-lt, not-equal, closed-from, closed-goes}
 use Rattle.seats.specs.Seats.{State, seat-count, assigned, held, pair-seat, offered-seat}
 use Rattle.seats.specs.Calls.{Call, change, declare, lift, assign, unassign, ask, seat-checks, checks, with-graph, with-conflicts, with-seats, after}
 use Rattle.seats.specs.Invariants.{Invariant}
@@ -164,6 +164,10 @@ lift-keeps s a b v (na, (nb, _)) =
       seated = v .seated;
       seat-free = λ i l t. v .seat-free i l (old-pair w a b ka kb (held s i) t);
     }
+
+-- Kinds 8 and 10 change no role's set, and on a state with the invariants 27 to 29 find nothing as it is.
+pub unjudged-finds-nothing : (s : State) → Invariant s → Passes (closed-checks (s .graph))
+unjudged-finds-nothing s v = closed-goes (s .graph) (v .graph .distinct) (v .graph .pair-free)
 
 -- ---- kinds 10 and 11
 assign-keeps : (s : State) (a b : ℕ) → Invariant s → Passes (checks s (assign a b) (after s (assign a b))) → Invariant (after s (assign a b))
