@@ -18,8 +18,9 @@ use Rattle.graph.specs.Editing.{add-by-privileges, for-role, edit, chang
 use Rattle.graph.specs.Invariants.{Formed}
 use Rattle.graph.proofs.Order.{below-max, not-above-max, edge-below}
 use Rattle.graph.proofs.Closing.{counted, count-join, count-top, closed-by}
-use Rattle.graph.proofs.Drawn.{in-direct, direct-or-junior, order, effective-lt, below-member, beyond-empty}
-use Rattle.graph.proofs.Placing.{added}
+use Rattle.graph.proofs.Heights.{order}
+use Rattle.graph.proofs.Drawn.{in-direct, direct-or-junior, effective-lt, below-member, beyond-empty}
+use Rattle.graph.proofs.Edits.{added}
 use Rattle.graph.proofs.Changes.{after, formed-after, effective-after}
 
 module _ (g : Graph) (w : Formed g) (a s : ℕ) (la : 2 ≤ a) (ka : a < role-count) (na : T (present g a) → ⊥) (ls : s < 2 ^ privilege-count) where
@@ -80,7 +81,7 @@ module _ (g : Graph) (w : Formed g) (a s : ℕ) (la : 2 ≤ a) (ka : a < role-co
         | inl d ↦
             elim (in-joined t p u) [
               | inl x ↦ joined-old r p (below-member g w t r p (edge-below g t r d) x)
-              | inr (inl e, _) ↦ absurd (na (subst (λ (i : ℕ). T (present g i)) e (order g w .between-present t r (edge-below g t r d) .0)))
+              | inr (inl e, _) ↦ absurd (na (subst (λ (i : ℕ). T (present g i)) e (order g (w .roles-lt) .between-present t r (edge-below g t r d) .0)))
               | inr (inr e, _) ↦ absurd (not-above-max g r (subst (λ (i : ℕ). T (below g i r)) e (edge-below g t r d)))
             ]
         | inr (e, l, m) ↦

@@ -19,7 +19,8 @@ use Rattle.graph.specs.Editing.{Change, remove-role, remove-edge, edit, 
 use Rattle.graph.specs.Invariants.{Formed}
 use Rattle.graph.proofs.Order.{Edge, edge-below}
 use Rattle.graph.proofs.Closing.{Laid, counted, count-join, closed-own, closed-down, closed-formed}
-use Rattle.graph.proofs.Drawn.{in-direct, direct-or-junior, effective-lt, below-apart, ordinary-below, below-member, tall, tall-lt, closed-within}
+use Rattle.graph.proofs.Heights.{below-apart, ordinary-below, tall, tall-lt}
+use Rattle.graph.proofs.Drawn.{in-direct, direct-or-junior, effective-lt, below-member, closed-within}
 use Rattle.graph.proofs.Edits.{removed-below, edge-removed, left-below, role-removed}
 
 -- The drawing that a change makes.
@@ -66,12 +67,12 @@ module _ (g : Graph) (w : Formed g) where
     unfolding edit redraw
     left-lies t r c =
         elim (counted (after g (remove-edge a b)) t r c) [
-          | inl d ↦ removed-below g w a b ab t r d
-          | inr (e, _, m) ↦ subst (λ (i : ℕ). T (below g t i)) (sym e) (ordinary-below g w t m)
+          | inl d ↦ removed-below g (w .roles-lt) a b ab t r d
+          | inr (e, l, m) ↦ subst (λ (i : ℕ). T (below g t i)) (sym e) (ordinary-below g (w .roles-lt) t m l)
         ]
 
     -- What a role other than b held is still held: where it came through b, it comes from b or past it.
-    still-held : (k p r : ℕ) → tall g w r < k → r ≢ b → T (member p (effective g r)) → T (member p (at (close (after g (remove-edge a b))) r))
+    still-held : (k p r : ℕ) → tall g (w .roles-lt) r < k → r ≢ b → T (member p (effective g r)) → T (member p (at (close (after g (remove-edge a b))) r))
     unfolding edit redraw
     still-held zero p r l n u = absurd (not-suc-le-zero l)
     still-held (suc k) p r l n u =
@@ -80,7 +81,7 @@ module _ (g : Graph) (w : Formed g) where
           | inr (t, d, x) ↦
               elim (ℕ-discrete t b) [
                 | yes e ↦ through (subst (λ (i : ℕ). Edge g i r) e d) (subst (λ (i : ℕ). T (member p (effective g i))) e x) (λ s h. still-held k p s (omega (arith, l, h)))
-                | no m ↦ down t r (edge-left t r d (λ _ y. n y)) (still-held k p t (omega (arith, tall-lt g w t r (edge-below g t r d))) m x)
+                | no m ↦ down t r (edge-left t r d (λ _ y. n y)) (still-held k p t (omega (arith, tall-lt g (w .roles-lt) t r (edge-below g t r d))) m x)
               ]
         ]
       where
@@ -93,14 +94,14 @@ module _ (g : Graph) (w : Formed g) where
         down : (t r : ℕ) → T (counts D t r) → T (member p (at (close D) t)) → T (member p (at (close D) r))
         down t r c y = closed-down D v p t r c y
 
-        through : Edge g b r → T (member p (effective g b)) → ((s : ℕ) → tall g w s < tall g w r → s ≢ b → T (member p (effective g s)) → T (member p (at (close D) s))) → T (member p (at (close D) r))
+        through : Edge g b r → T (member p (effective g b)) → ((s : ℕ) → tall g (w .roles-lt) s < tall g (w .roles-lt) r → s ≢ b → T (member p (effective g s)) → T (member p (at (close D) s))) → T (member p (at (close D) r))
         through d x rec =
-            let up : T (counts D b r) = edge-left b r d (λ e _. below-apart g w a b (edge-below g a b ab) (sym e)) in
-            let lower : (s : ℕ) → Edge g s b → tall g w s < tall g w r = λ s h. omega (arith, tall-lt g w s b (edge-below g s b h), tall-lt g w b r (edge-below g b r d)) in
+            let up : T (counts D b r) = edge-left b r d (λ e _. below-apart g (w .roles-lt) a b (edge-below g a b ab) (sym e)) in
+            let lower : (s : ℕ) → Edge g s b → tall g (w .roles-lt) s < tall g (w .roles-lt) r = λ s h. omega (arith, tall-lt g (w .roles-lt) s b (edge-below g s b h), tall-lt g (w .roles-lt) b r (edge-below g b r d)) in
             elim (direct-or-junior g p b x) [
               | inl y ↦ down b r up (closed-own D v p b y)
               | inr (s, h, y) ↦ (
-                  let z = rec s (lower s h) (below-apart g w s b (edge-below g s b h)) y in
+                  let z = rec s (lower s h) (below-apart g (w .roles-lt) s b (edge-below g s b h)) y in
                   elim (ℕ-discrete s a) [
                     | yes e ↦ down a r (joined-up r d) (subst (λ (i : ℕ). T (member p (at (close D) i))) e z)
                     | no m ↦ down b r up (down s b (edge-left s b h (λ q _. m q)) z)
@@ -113,7 +114,7 @@ module _ (g : Graph) (w : Formed g) where
     removed-edge-only r n =
         unchanged (remove-edge a b) (edge-removed g w a b ab) r
         (λ p u. closed-within g w (after g (remove-edge a b)) (edge-removed g w a b ab) (in-direct g) left-lies p r u)
-        (λ p u. still-held (suc (tall g w r)) p r (lt-suc-self _) n u)
+        (λ p u. still-held (suc (tall g (w .roles-lt) r)) p r (lt-suc-self _) n u)
 
   -- ---- kind 3
   module _ (a b : ℕ) where
@@ -136,7 +137,7 @@ module _ (g : Graph) (w : Formed g) where
     taken-direct : (p r : ℕ) → b ≡ 1 → Edge g a r → T (member p (direct g a)) → T (member p (after g (remove-role a b) .directs r))
     unfolding edit redraw
     taken-direct p r e d u =
-        when-in p (not (eqb r a)) _ (other r (λ q. below-apart g w a r (edge-below g a r d) (sym q)))
+        when-in p (not (eqb r a)) _ (other r (λ q. below-apart g (w .roles-lt) a r (edge-below g a r d) (sym q)))
         (union-right p (direct g r) _ (when-in p (eqb b 1 && edge g a r) (direct g a) (join (eqb b 1) (edge g a r) (equal-test e) d) u))
 
     direct-held : (p r : ℕ) → T (member p (after g (remove-role a b) .directs r)) → T (member p (effective g r))
@@ -153,11 +154,11 @@ module _ (g : Graph) (w : Formed g) where
     unfolding edit redraw
     beside-lies t r c =
         elim (counted (after g (remove-role a b)) t r c) [
-          | inl x ↦ left-below g w a b t r x .2
-          | inr (e, _, m) ↦ subst (λ (i : ℕ). T (below g t i)) (sym e) (ordinary-below g w t (in-difference t (g .roles) (single a) m .0))
+          | inl x ↦ left-below g (w .roles-lt) a b t r x .2
+          | inr (e, l, m) ↦ subst (λ (i : ℕ). T (below g t i)) (sym e) (ordinary-below g (w .roles-lt) t (in-difference t (g .roles) (single a) m .0) l)
         ]
 
-    passed-on : (k p r : ℕ) → tall g w r < k → r ≢ a → (T (member p (direct g a)) → b ≡ 1) → T (member p (effective g r)) → T (member p (at (close (after g (remove-role a b))) r))
+    passed-on : (k p r : ℕ) → tall g (w .roles-lt) r < k → r ≢ a → (T (member p (direct g a)) → b ≡ 1) → T (member p (effective g r)) → T (member p (at (close (after g (remove-role a b))) r))
     passed-on zero p r l n f u = absurd (not-suc-le-zero l)
     passed-on (suc k) p r l n f u =
         elim (direct-or-junior g p r u) [
@@ -165,7 +166,7 @@ module _ (g : Graph) (w : Formed g) where
           | inr (t, d, x) ↦
               elim (ℕ-discrete t a) [
                 | yes e ↦ past (subst (λ (i : ℕ). Edge g i r) e d) (subst (λ (i : ℕ). T (member p (effective g i))) e x) (λ s h m. passed-on k p s (omega (arith, l, h)) m f)
-                | no m ↦ down t (beside t r m n (or-left (edge g t r) _ d)) (passed-on k p t (omega (arith, tall-lt g w t r (edge-below g t r d))) m f x)
+                | no m ↦ down t (beside t r m n (or-left (edge g t r) _ d)) (passed-on k p t (omega (arith, tall-lt g (w .roles-lt) t r (edge-below g t r d))) m f x)
               ]
         ]
       where
@@ -178,13 +179,13 @@ module _ (g : Graph) (w : Formed g) where
         down : (t : ℕ) → T (counts D t r) → T (member p (at (close D) t)) → T (member p (at (close D) r))
         down t c x = closed-down D (role-removed g w a b) p t r c x
 
-        past : Edge g a r → T (member p (effective g a)) → ((s : ℕ) → tall g w s < tall g w r → s ≢ a → T (member p (effective g s)) → T (member p (at (close D) s))) → T (member p (at (close D) r))
+        past : Edge g a r → T (member p (effective g a)) → ((s : ℕ) → tall g (w .roles-lt) s < tall g (w .roles-lt) r → s ≢ a → T (member p (effective g s)) → T (member p (at (close D) s))) → T (member p (at (close D) r))
         past d x rec =
             elim (direct-or-junior g p a x) [
               | inl y ↦ own r (taken-direct p r (f y) d y)
               | inr (s, h, y) ↦ (
-                  let m = below-apart g w s a (edge-below g s a h) in
-                  let lower : tall g w s < tall g w r = omega (arith, tall-lt g w s a (edge-below g s a h), tall-lt g w a r (edge-below g a r d)) in
+                  let m = below-apart g (w .roles-lt) s a (edge-below g s a h) in
+                  let lower : tall g (w .roles-lt) s < tall g (w .roles-lt) r = omega (arith, tall-lt g (w .roles-lt) s a (edge-below g s a h), tall-lt g (w .roles-lt) a r (edge-below g a r d)) in
                   down s (beside s r m n (or-right (edge g s r) (edge g a r && edge g s a) (join (edge g a r) (edge g s a) d h))) (rec s lower m y))
             ]
 
@@ -196,7 +197,7 @@ module _ (g : Graph) (w : Formed g) where
     -- It takes no privilege from another role but those direct in a, and with b 1 not those.
     pub removed-role-keeps : (p r : ℕ) → r ≢ a → (T (member p (direct g a)) → b ≡ 1) → T (member p (effective g r)) → T (member p (effective (changed g (remove-role a b)) r))
     removed-role-keeps p r n f u =
-        subst (λ (s : ℕ). T (member p s)) (sym (effective-after g (remove-role a b) r)) (passed-on (suc (tall g w r)) p r (lt-suc-self _) n f u)
+        subst (λ (s : ℕ). T (member p s)) (sym (effective-after g (remove-role a b) r)) (passed-on (suc (tall g (w .roles-lt) r)) p r (lt-suc-self _) n f u)
 
   -- With b 0 another role loses only privileges direct in a.
   pub dropped-role-keeps : (a r : ℕ) → r ≢ a → (p : ℕ) → T (member p (effective g r)) → (T (member p (direct g a)) → ⊥) → T (member p (effective (changed g (remove-role a 0)) r))

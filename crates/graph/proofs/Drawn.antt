@@ -21,6 +21,7 @@ use Rattle.graph.specs.Closing.{counts, close}
 use Rattle.graph.specs.Invariants.{Formed}
 use Rattle.graph.proofs.Tables.{table-ext, entry-in, at-end}
 use Rattle.graph.proofs.Order.{Edge, from-min, to-max, inside, present-cases, member-present, below-cases, below-order, below-max, above-min, edge-below, path-iff-below}
+use Rattle.graph.proofs.Heights.{order, ordinary-below, tall, tall-lt, edges-laid}
 use Rattle.graph.proofs.Closing.{has-role, DirectsLaid, JoinsLaid, Laid, counted, count-join, closed-length, closed-by, closed-member}
 
 -- p is direct in r, or in a role from which a path leads to r.
@@ -42,18 +43,9 @@ direct-or-junior g p r u =
     ]
 
 module _ (g : Graph) (w : Formed g) where
-  pub order : StrictOrder role-count (present g) (below g)
-  order = below-order g (w .roles-lt)
-
   pub effective-lt : (r : ℕ) → effective g r < 2 ^ privilege-count
   unfolding effective
   effective-lt r = w .sets .entry-lt r
-
-  pub below-apart : (t r : ℕ) → T (below g t r) → t ≢ r
-  below-apart t r b e = order .irreflexive r (subst (λ (i : ℕ). T (below g i r)) e b)
-
-  pub ordinary-below : (t : ℕ) → T (member t (g .roles)) → T (below g t max-role)
-  ordinary-below t m = below-max g t (member-present g t m) (let l = w .roles-ordinary t m in omega arith)
 
   -- What lies below holds no more.
   pub below-member : (t r p : ℕ) → T (below g t r) → T (member p (effective g t)) → T (member p (effective g r))
@@ -71,46 +63,6 @@ module _ (g : Graph) (w : Formed g) where
       held : T (present g t) × (1 ≤ t)
       held = w .held p t u
 
-  -- ---- heights
-  -- How many roles lie below.
-  pub tall : ℕ → ℕ
-  tall = rank role-count (below g)
-
-  pub tall-lt : (t r : ℕ) → T (below g t r) → tall t < tall r
-  unfolding tall
-  tall-lt t r b = rank-lt role-count (present g) (below g) order t r b
-
-  tall-bound : (r : ℕ) → tall r ≤ role-count
-  unfolding tall
-  tall-bound r = rank-le role-count (below g) r
-
-  -- Edges that lie in the order or lead to a higher class make no circle, where the class never falls along the order.
-  pub raised : (R : ℕ) (E : ℕ → ℕ → Bool) (class : ℕ → ℕ) → ((t r : ℕ) → T (below g t r) → class t ≤ class r)
-      → ((t r : ℕ) → T (E t r) → T (below g t r) ⊎ (class t < class r))
-      → ((t : ℕ) → T (member t R) → T (below g t max-role) ⊎ (class t < class max-role))
-      → ((t r : ℕ) → T (E t r) → T (has-role R t) × T (has-role R r) × (1 ≤ r))
-      → JoinsLaid R E
-  raised R E class rises each top ends = record {
-    height = λ r. tall r + suc role-count * class r;
-    falls = λ t r x. climb t r (each t r x);
-    top = λ t m _. climb t max-role (top t m);
-    joins-from = λ t r x. ends t r x .0;
-    joins-to = λ t r x. (ends t r x .1, ends t r x .2);
-  }
-    where
-      climb : (t r : ℕ) → T (below g t r) ⊎ (class t < class r) → tall t + suc role-count * class t < tall r + suc role-count * class r
-      climb t r (inl b) = omega (arith, tall-lt t r b, rises t r b)
-      climb t r (inr l) = omega (arith, tall-bound t)
-
-  -- Edges that lie in the order make no circle.
-  pub ordered : (R : ℕ) (E : ℕ → ℕ → Bool) → ((t : ℕ) → T (member t R) → T (member t (g .roles)))
-      → ((t r : ℕ) → T (E t r) → T (below g t r))
-      → ((t r : ℕ) → T (E t r) → T (has-role R t) × T (has-role R r))
-      → JoinsLaid R E
-  ordered R E old lies ends =
-      raised R E (λ _. 0) (λ t r x. omega arith) (λ t r x. inl (lies t r x)) (λ t m. inl (ordinary-below t (old t m)))
-      (λ t r x. (ends t r x .0, ends t r x .1, above-min g t r (lies t r x)))
-
   -- ---- the drawn graph
   pub direct-laid : DirectsLaid (g .roles) (direct g)
   unfolding present direct
@@ -119,13 +71,9 @@ module _ (g : Graph) (w : Formed g) where
     direct-of = λ p r u. w .held p r (in-direct g p r u);
   }
 
-  pub edges-laid : JoinsLaid (g .roles) (edge g)
-  unfolding present
-  edges-laid = ordered (g .roles) (edge g) (λ t m. m) (edge-below g) (λ t r x. order .between-present t r (edge-below g t r x))
-
   pub laid-drawing : Laid (redraw g)
   unfolding redraw
-  laid-drawing = record { roles-lt = w .roles-lt; roles-ordinary = w .roles-ordinary; directs = direct-laid; joins = edges-laid }
+  laid-drawing = record { roles-lt = w .roles-lt; roles-ordinary = w .roles-ordinary; directs = direct-laid; joins = edges-laid g (w .roles-lt) }
 
   -- Closing the drawn graph gives the sets that it was drawn from.
   pub reclosed : (r : ℕ) → r < role-count → at (close (redraw g)) r ≡ effective g r
@@ -137,7 +85,7 @@ module _ (g : Graph) (w : Formed g) where
       (λ t r p c u. below-member t r p
       (elim (counted (redraw g) t r c) [
         | inl d ↦ edge-below g t r d
-        | inr (e, _, m) ↦ subst (λ (i : ℕ). T (below g t i)) (sym e) (ordinary-below t m)
+        | inr (e, _, m) ↦ subst (λ (i : ℕ). T (below g t i)) (sym e) (ordinary-below g (w .roles-lt) t m (w .roles-ordinary t m))
       ]) u)
 
   pub reclosed-sets : close (redraw g) ≡ g .sets
@@ -147,18 +95,18 @@ module _ (g : Graph) (w : Formed g) where
   -- ---- what roles hold
   -- A role holds what is direct in it or in a role from which a path leads to it.
   pub effective-iff : (p r : ℕ) → T (member p (effective g r)) ↔ Reached g p r
-  effective-iff p r = (find (suc (tall r)) r (lt-suc-self _), back)
+  effective-iff p r = (find (suc (tall g (w .roles-lt) r)) r (lt-suc-self _), back)
     where
       on : (t r : ℕ) → Edge g t r → Reached g p t → Reached g p r
       on t r d (s, x, inl e) = (s, x, inr (subst (λ (i : ℕ). Path (Edge g) i r) (sym e) (last d)))
       on t r d (s, x, inr q) = (s, x, inr (q ⧺ last d))
 
-      find : (k r : ℕ) → tall r < k → T (member p (effective g r)) → Reached g p r
+      find : (k r : ℕ) → tall g (w .roles-lt) r < k → T (member p (effective g r)) → Reached g p r
       find zero r l u = absurd (not-suc-le-zero l)
       find (suc k) r l u =
           elim (direct-or-junior g p r u) [
             | inl x ↦ (r, x, inl refl)
-            | inr (t, d, x) ↦ on t r d (find k t (omega (arith, tall-lt t r (edge-below g t r d))) x)
+            | inr (t, d, x) ↦ on t r d (find k t (omega (arith, tall-lt g (w .roles-lt) t r (edge-below g t r d))) x)
           ]
 
       back : Reached g p r → T (member p (effective g r))
@@ -184,7 +132,7 @@ module _ (g : Graph) (w : Formed g) where
     where
       along : {t r : ℕ} → Path (λ u v. T (counts d u v)) t r → T (below g t r)
       along (last {r = t} {s = r} c) = lies t r c
-      along (then {r = t} {t = s} {s = r} c q) = order .transitive t s r (lies t s c) (along q)
+      along (then {r = t} {t = s} {s = r} c q) = order g (w .roles-lt) .transitive t s r (lies t s c) (along q)
 
       go : (t : ℕ) × T (member p (d .directs t)) × ((t ≡ r) ⊎ Path (λ u v. T (counts d u v)) t r) → T (member p (effective g r))
       go (t, x, inl e) = subst (λ (i : ℕ). T (member p (effective g i))) e (own p t x)

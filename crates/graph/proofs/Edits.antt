@@ -17,9 +17,10 @@ use Rattle.graph.specs.Refusing.{input-checks, at-or-below, state-checks
 use Rattle.graph.specs.Invariants.{Formed}
 use Rattle.graph.proofs.Order.{not-end, edge-below}
 use Rattle.graph.proofs.Refusals.{Passes, number-lt, no-end-in, not-equal, all-present, no-circle-in}
-use Rattle.graph.proofs.Closing.{has-role, Laid, closed-formed}
-use Rattle.graph.proofs.Drawn.{order, ordinary-below, raised, ordered, direct-laid, edges-laid}
-use Rattle.graph.proofs.Placing.{given-more, one-if, one-passes, one-fails, one-le, at-or-below-cases, at-itself, at-or-below-up, placed, added}
+use Rattle.graph.proofs.Closing.{has-role, DirectsLaid, JoinsLaid, Laid, closed-formed}
+use Rattle.graph.proofs.Heights.{order, ordinary-below, raised, ordered, edges-laid}
+use Rattle.graph.proofs.Drawn.{direct-laid}
+use Rattle.graph.proofs.Placing.{given-more, one-if, one-passes, one-fails, one-le, at-or-below-cases, at-itself, at-or-below-up, place-laid, unplaced-laid, own-laid, one-more}
 
 -- The sets that a change carries have their width.
 unfoldable pub Fits : Change → Type 0
@@ -31,47 +32,21 @@ Fits (withdraw a b) = Unit {0}
 Fits (add-edge a b) = Unit {0}
 Fits (remove-edge a b) = Unit {0}
 
-module _ (g : Graph) (w : Formed g) where
-  -- ---- kinds 4 and 5
-  pub granted : (a b : ℕ) → T (present g a) → 1 ≤ a → b < privilege-count → Laid (edit (grant a b) (redraw g))
+-- ---- edges that make no circle, whatever the sets hold
+module _ (g : Graph) (h : g .roles < 2 ^ role-count) where
+  -- Kind 6: the class is 1 from b upwards.
+  pub edge-added-joins : (a b : ℕ) → T (present g a) → T (present g b) → 1 ≤ b → a ≢ b → (T (below g b a) → ⊥) → JoinsLaid (g .roles) (edit (add-edge a b) (redraw g) .joins)
   unfolding edit redraw present
-  granted a b pa la lb = record {
-    roles-lt = w .roles-lt;
-    roles-ordinary = w .roles-ordinary;
-    directs = given-more (g .roles) (direct g) a (single b) (direct-laid g w) pa la (single-lt privilege-count b lb);
-    joins = edges-laid g w;
-  }
-
-  pub withdrawn : (a b : ℕ) → Laid (edit (withdraw a b) (redraw g))
-  unfolding edit redraw
-  withdrawn a b = record {
-    roles-lt = w .roles-lt;
-    roles-ordinary = w .roles-ordinary;
-    directs = record {
-      direct-lt = λ r. difference-lt privilege-count _ _ (direct-laid g w .direct-lt r);
-      direct-of = λ p r u. direct-laid g w .direct-of p r (in-difference p (direct g r) (for-role a (single b) r) u .0);
-    };
-    joins = edges-laid g w;
-  }
-
-  -- ---- kind 6: the class is 1 from b upwards
-  pub edge-added : (a b : ℕ) → T (present g a) → T (present g b) → 1 ≤ b → a ≢ b → (T (below g b a) → ⊥) → Laid (edit (add-edge a b) (redraw g))
-  unfolding edit redraw present
-  edge-added a b pa pb lb d n = record {
-    roles-lt = w .roles-lt;
-    roles-ordinary = w .roles-ordinary;
-    directs = direct-laid g w;
-    joins =
-        raised g w (g .roles) _ (λ r. one-if (at-or-below g b r))
-        (λ t r x. one-le (at-or-below g b t) (at-or-below g b r) (at-or-below-up g w b t r x))
-        (λ t r x. elim (cases t r x) [ inl y ↦ inl (edge-below g t r y) | inr (p, q) ↦ inr (higher t r p q) ])
-        (λ t m. inl (ordinary-below g w t m))
-        (λ t r x.
-        elim (cases t r x) [
-          | inl y ↦ (edges-laid g w .joins-from t r y, edges-laid g w .joins-to t r y .0, edges-laid g w .joins-to t r y .1)
-          | inr (p, q) ↦ (subst (λ (i : ℕ). T (has-role (g .roles) i)) (sym p) pa, subst (λ (i : ℕ). T (has-role (g .roles) i)) (sym q) pb, omega arith)
-        ]);
-  }
+  edge-added-joins a b pa pb lb d n =
+      raised g h (g .roles) _ (λ r. one-if (at-or-below g b r))
+      (λ t r x. one-le (at-or-below g b t) (at-or-below g b r) (at-or-below-up g h b t r x))
+      (λ t r x. elim (cases t r x) [ inl y ↦ inl (edge-below g t r y) | inr (p, q) ↦ inr (higher t r p q) ])
+      (λ t m l. inl (ordinary-below g h t m l))
+      (λ t r x.
+      elim (cases t r x) [
+        | inl y ↦ (edges-laid g h .joins-from t r y, edges-laid g h .joins-to t r y .0, edges-laid g h .joins-to t r y .1)
+        | inr (p, q) ↦ (subst (λ (i : ℕ). T (has-role (g .roles) i)) (sym p) pa, subst (λ (i : ℕ). T (has-role (g .roles) i)) (sym q) pb, omega arith)
+      ])
     where
       cases : (t r : ℕ) → T (edge g t r || (eqb r b && eqb t a)) → T (edge g t r) ⊎ ((t ≡ a) × (r ≡ b))
       cases t r x =
@@ -89,8 +64,7 @@ module _ (g : Graph) (w : Formed g) where
           ap (λ (i : ℕ). one-if (at-or-below g b i)) q ∙ one-passes (at-or-below g b b) (at-itself g b) in
           omega arith
 
-  -- ---- kind 7
-  -- The edges that are left lie in the order.
+  -- Kind 7: the edges that are left lie in the order.
   pub removed-below : (a b : ℕ) → T (edge g a b) → (t r : ℕ) → T (edit (remove-edge a b) (redraw g) .joins t r) → T (below g t r)
   unfolding edit redraw
   removed-below a b d t r x =
@@ -100,24 +74,18 @@ module _ (g : Graph) (w : Formed g) where
             elim (either (eqb r b && edge g t a) (edge g b r && eqb t a) y) [
               | inl z ↦ (
                   let (e, x) = both (eqb r b) (edge g t a) z in
-                  order g w .transitive t a r (edge-below g t a x) (subst (λ (i : ℕ). T (below g a i)) (sym (test-equal e)) (edge-below g a b d)))
+                  order g h .transitive t a r (edge-below g t a x) (subst (λ (i : ℕ). T (below g a i)) (sym (test-equal e)) (edge-below g a b d)))
               | inr z ↦ (
                   let (x, e) = both (edge g b r) (eqb t a) z in
-                  order g w .transitive t b r (subst (λ (i : ℕ). T (below g i b)) (sym (test-equal e)) (edge-below g a b d)) (edge-below g b r x))
+                  order g h .transitive t b r (subst (λ (i : ℕ). T (below g i b)) (sym (test-equal e)) (edge-below g a b d)) (edge-below g b r x))
             ]
       ]
 
-  pub edge-removed : (a b : ℕ) → T (edge g a b) → Laid (edit (remove-edge a b) (redraw g))
-  unfolding edit redraw present
-  edge-removed a b d = record {
-    roles-lt = w .roles-lt;
-    roles-ordinary = w .roles-ordinary;
-    directs = direct-laid g w;
-    joins = ordered g w (g .roles) _ (λ t m. m) (removed-below a b d) (λ t r x. order g w .between-present t r (removed-below a b d t r x));
-  }
+  pub edge-removed-joins : (a b : ℕ) → T (edge g a b) → JoinsLaid (g .roles) (edit (remove-edge a b) (redraw g) .joins)
+  unfolding present
+  edge-removed-joins a b d = ordered g h (g .roles) _ (λ t m. m) (removed-below a b d) (λ t r x. order g h .between-present t r (removed-below a b d t r x))
 
-  -- ---- kind 3
-  -- The edges that are left lie in the order and beside a.
+  -- Kind 3: the edges that are left lie in the order and beside a.
   pub left-below : (a b t r : ℕ) → T (edit (remove-role a b) (redraw g) .joins t r) → (t ≢ a) × (r ≢ a) × T (below g t r)
   unfolding edit redraw
   left-below a b t r x =
@@ -127,63 +95,125 @@ module _ (g : Graph) (w : Formed g) where
         λ e. T-not (eqb r a) m (equal-test e),
         elim (either (edge g t r) (edge g a r && edge g t a) z) [
           | inl d ↦ edge-below g t r d
-          | inr d ↦ (let (u, v) = both (edge g a r) (edge g t a) d in order g w .transitive t a r (edge-below g t a v) (edge-below g a r u))
+          | inr d ↦ (let (u, v) = both (edge g a r) (edge g t a) d in order g h .transitive t a r (edge-below g t a v) (edge-below g a r u))
         ],
       )
 
-  pub role-removed : (a b : ℕ) → Laid (edit (remove-role a b) (redraw g))
-  unfolding edit redraw
-  role-removed a b = record {
-    roles-lt = difference-lt role-count _ _ (w .roles-lt);
-    roles-ordinary = λ r m. w .roles-ordinary r (in-difference r (g .roles) (single a) m .0);
-    directs = record {
-      direct-lt = λ r.
-          when-lt privilege-count _ _ (union-lt privilege-count _ _ (direct-laid g w .direct-lt r) (when-lt privilege-count _ _ (direct-laid g w .direct-lt a)));
-      direct-of = λ p r u.
-          let (m, v) = in-when p (not (eqb r a)) (union (direct g r) (when (eqb b 1 && edge g a r) (direct g a))) u in
-          let n : r ≢ a = λ e. T-not (eqb r a) m (equal-test e) in
-          elim (in-union p (direct g r) (when (eqb b 1 && edge g a r) (direct g a)) v) [
-            | inl y ↦ (let (q, l) = direct-laid g w .direct-of p r y in (kept r n q, l))
-            | inr y ↦ (
-                let x = both (eqb b 1) (edge g a r) (in-when p (eqb b 1 && edge g a r) (direct g a) y .0) .1 in
-                let (q, l) = edges-laid g w .joins-to a r x in
-                (kept r n q, l))
-          ];
-    };
-    joins =
-        ordered g w (difference (g .roles) (single a)) _ (λ t m. in-difference t (g .roles) (single a) m .0) (λ t r x. left-below a b t r x .2)
-        (λ t r x.
-        let (n, m, y) = left-below a b t r x in
-        let (p, q) = ends t r y in
-        (kept t n p, kept r m q));
-  }
-    where
-      kept : (r : ℕ) → r ≢ a → T (has-role (g .roles) r) → T (has-role (difference (g .roles) (single a)) r)
-      kept r n t =
-          elim (either (is-end r) (member r (g .roles)) t) [
-            | inl e ↦ or-left (is-end r) (member r (difference (g .roles) (single a))) e
-            | inr m ↦ or-right (is-end r) (member r (difference (g .roles) (single a))) (difference-in r (g .roles) (single a) m (λ x. n (in-single r a x)))
-          ]
+  -- A role other than a stays a role.
+  other-role : (a r : ℕ) → r ≢ a → T (has-role (g .roles) r) → T (has-role (difference (g .roles) (single a)) r)
+  other-role a r n t =
+      elim (either (is-end r) (member r (g .roles)) t) [
+        | inl e ↦ or-left (is-end r) (member r (difference (g .roles) (single a))) e
+        | inr m ↦ or-right (is-end r) (member r (difference (g .roles) (single a))) (difference-in r (g .roles) (single a) m (λ x. n (in-single r a x)))
+      ]
 
-      ends : (t r : ℕ) → T (below g t r) → T (has-role (g .roles) t) × T (has-role (g .roles) r)
-      ends t r y = unfold present in order g w .between-present t r y
+  pub role-removed-joins : (a b : ℕ) → JoinsLaid (difference (g .roles) (single a)) (edit (remove-role a b) (redraw g) .joins)
+  unfolding present
+  role-removed-joins a b =
+      ordered g h (difference (g .roles) (single a)) _ (λ t m. in-difference t (g .roles) (single a) m .0) (λ t r x. left-below a b t r x .2)
+      (λ t r x.
+      let (n, m, y) = left-below a b t r x in
+      let (p, q) = order g h .between-present t r y in
+      (other-role a t n p, other-role a r m q))
 
--- Whatever its checks let pass, a change lays the graph out without a circle.
-pub laid : (g : Graph) → Formed g → (c : Change) → Fits c → Passes (input-checks c) → Passes (state-checks g c) → Laid (edit c (redraw g))
-unfolding Fits Passes input-checks state-checks
-laid g w (add-by-place a own juniors seniors) (lo, lj, ls) (x₁, (x₂, (x₃, (x₄, _)))) (y₁, (y₂, (y₃, (y₄, _)))) =
-    placed g w a (not-end a x₂) (number-lt role-count a x₁) y₁ juniors seniors
+-- Whatever its checks let pass, a change makes no circle.
+pub joins-laid : (g : Graph) → g .roles < 2 ^ role-count → (c : Change) → Fits c → Passes (input-checks c) → Passes (state-checks g c) → JoinsLaid (edit c (redraw g) .roles) (edit c (redraw g) .joins)
+unfolding Fits Passes input-checks state-checks edit redraw
+joins-laid g h (add-by-place a own juniors seniors) (_, lj, ls) (x₁, (x₂, (x₃, (x₄, _)))) (y₁, (y₂, (y₃, (y₄, _)))) =
+    place-laid g h a (not-end a x₂) (number-lt role-count a x₁) y₁ juniors seniors
     (λ t m. (all-present g juniors lj y₂ t m, no-end-in juniors x₃ t m))
     (λ t m. (all-present g seniors ls y₃ t m, no-end-in seniors x₄ t m))
-    (no-circle-in g juniors seniors lj ls y₄) own lo
-laid g w (add-by-privileges a own) lo (x₁, (x₂, _)) (y₁, _) = added g w a (not-end a x₂) (number-lt role-count a x₁) y₁ own lo
-laid g w (remove-role a b) _ _ _ = role-removed g w a b
-laid g w (grant a b) _ (x₁, (x₂, (x₃, _))) (y₁, _) =
-    granted g w a b (so (present g a) y₁) (let l = not-end a x₃ in omega arith) (number-lt privilege-count b x₂)
-laid g w (withdraw a b) _ _ _ = withdrawn g w a b
-laid g w (add-edge a b) _ (x₁, (x₂, (x₃, (x₄, (x₅, _))))) (y₁, (y₂, (y₃, (y₄, _)))) =
-    edge-added g w a b (so (present g a) y₁) (so (present g b) y₂) (let l = not-end b x₄ in omega arith) (not-equal a b x₅) y₄
-laid g w (remove-edge a b) _ _ (y₁, (y₂, (y₃, _))) = edge-removed g w a b (so (edge g a b) y₃)
+    (no-circle-in g juniors seniors lj ls y₄)
+joins-laid g h (add-by-privileges a own) _ (x₁, (x₂, _)) (y₁, _) = unplaced-laid g h a (not-end a x₂) (number-lt role-count a x₁) y₁
+joins-laid g h (remove-role a b) _ _ _ = role-removed-joins g h a b
+joins-laid g h (grant a b) _ _ _ = edges-laid g h
+joins-laid g h (withdraw a b) _ _ _ = edges-laid g h
+joins-laid g h (add-edge a b) _ (x₁, (x₂, (x₃, (x₄, (x₅, _))))) (y₁, (y₂, (y₃, (y₄, _)))) =
+    edge-added-joins g h a b (so (present g a) y₁) (so (present g b) y₂) (let l = not-end b x₄ in omega arith) (not-equal a b x₅) y₄
+joins-laid g h (remove-edge a b) _ _ (y₁, (y₂, (y₃, _))) = edge-removed-joins g h a b (so (edge g a b) y₃)
+
+-- ---- drawings laid out
+module _ (g : Graph) (w : Formed g) where
+  granted-directs : (a b : ℕ) → T (present g a) → 1 ≤ a → b < privilege-count → DirectsLaid (g .roles) (edit (grant a b) (redraw g) .directs)
+  unfolding edit redraw present
+  granted-directs a b pa la lb = given-more (g .roles) (direct g) a (single b) (direct-laid g w) pa la (single-lt privilege-count b lb)
+
+  withdrawn-directs : (a b : ℕ) → DirectsLaid (g .roles) (edit (withdraw a b) (redraw g) .directs)
+  unfolding edit redraw
+  withdrawn-directs a b = record {
+    direct-lt = λ r. difference-lt privilege-count _ _ (direct-laid g w .direct-lt r);
+    direct-of = λ p r u. direct-laid g w .direct-of p r (in-difference p (direct g r) (for-role a (single b) r) u .0);
+  }
+
+  removed-directs : (a b : ℕ) → DirectsLaid (difference (g .roles) (single a)) (edit (remove-role a b) (redraw g) .directs)
+  unfolding edit redraw
+  removed-directs a b = record {
+    direct-lt = λ r.
+        when-lt privilege-count _ _ (union-lt privilege-count _ _ (direct-laid g w .direct-lt r) (when-lt privilege-count _ _ (direct-laid g w .direct-lt a)));
+    direct-of = λ p r u.
+        let (m, v) = in-when p (not (eqb r a)) (union (direct g r) (when (eqb b 1 && edge g a r) (direct g a))) u in
+        let n : r ≢ a = λ e. T-not (eqb r a) m (equal-test e) in
+        elim (in-union p (direct g r) (when (eqb b 1 && edge g a r) (direct g a)) v) [
+          | inl y ↦ (let (q, l) = direct-laid g w .direct-of p r y in (other-role g (w .roles-lt) a r n q, l))
+          | inr y ↦ (
+              let x = both (eqb b 1) (edge g a r) (in-when p (eqb b 1 && edge g a r) (direct g a) y .0) .1 in
+              let (q, l) = edges-laid g (w .roles-lt) .joins-to a r x in
+              (other-role g (w .roles-lt) a r n q, l))
+        ];
+  }
+
+pub role-removed : (g : Graph) → Formed g → (a b : ℕ) → Laid (edit (remove-role a b) (redraw g))
+unfolding edit redraw
+role-removed g w a b = record {
+  roles-lt = difference-lt role-count _ _ (w .roles-lt);
+  roles-ordinary = λ r m. w .roles-ordinary r (in-difference r (g .roles) (single a) m .0);
+  directs = removed-directs g w a b;
+  joins = role-removed-joins g (w .roles-lt) a b;
+}
+
+pub edge-removed : (g : Graph) → Formed g → (a b : ℕ) → T (edge g a b) → Laid (edit (remove-edge a b) (redraw g))
+unfolding edit redraw
+edge-removed g w a b d = record { roles-lt = w .roles-lt; roles-ordinary = w .roles-ordinary; directs = direct-laid g w; joins = edge-removed-joins g (w .roles-lt) a b d }
+
+pub added : (g : Graph) → Formed g → (a : ℕ) → 2 ≤ a → a < role-count → (T (present g a) → ⊥) → (own : ℕ) → own < 2 ^ privilege-count → Laid (edit (add-by-privileges a own) (redraw g))
+unfolding edit redraw
+added g w a la ka na own lo = record {
+  roles-lt = one-more g w a la ka .0;
+  roles-ordinary = one-more g w a la ka .1;
+  directs = own-laid g (w .roles-lt) w a la ka na own lo;
+  joins = unplaced-laid g (w .roles-lt) a la ka na;
+}
+
+-- The direct privileges that a change leaves are those of roles other than MinRole.
+directs-laid : (g : Graph) → Formed g → (c : Change) → Fits c → Passes (input-checks c) → Passes (state-checks g c) → DirectsLaid (edit c (redraw g) .roles) (edit c (redraw g) .directs)
+unfolding Fits Passes input-checks state-checks edit redraw
+directs-laid g w (add-by-place a own juniors seniors) (lo, _, _) (x₁, (x₂, _)) (y₁, _) = own-laid g (w .roles-lt) w a (not-end a x₂) (number-lt role-count a x₁) y₁ own lo
+directs-laid g w (add-by-privileges a own) lo (x₁, (x₂, _)) (y₁, _) = own-laid g (w .roles-lt) w a (not-end a x₂) (number-lt role-count a x₁) y₁ own lo
+directs-laid g w (remove-role a b) _ _ _ = removed-directs g w a b
+directs-laid g w (grant a b) _ (x₁, (x₂, (x₃, _))) (y₁, _) = granted-directs g w a b (so (present g a) y₁) (let l = not-end a x₃ in omega arith) (number-lt privilege-count b x₂)
+directs-laid g w (withdraw a b) _ _ _ = withdrawn-directs g w a b
+directs-laid g w (add-edge a b) _ _ _ = direct-laid g w
+directs-laid g w (remove-edge a b) _ _ _ = direct-laid g w
+
+-- The roles that a change leaves are ordinary ones.
+roles-laid : (g : Graph) → Formed g → (c : Change) → Passes (input-checks c) → (edit c (redraw g) .roles < 2 ^ role-count) × ((r : ℕ) → T (member r (edit c (redraw g) .roles)) → 2 ≤ r)
+unfolding Passes input-checks edit redraw
+roles-laid g w (add-by-place a own juniors seniors) (x₁, (x₂, _)) = one-more g w a (not-end a x₂) (number-lt role-count a x₁)
+roles-laid g w (add-by-privileges a own) (x₁, (x₂, _)) = one-more g w a (not-end a x₂) (number-lt role-count a x₁)
+roles-laid g w (remove-role a b) _ = (difference-lt role-count _ _ (w .roles-lt), λ r m. w .roles-ordinary r (in-difference r (g .roles) (single a) m .0))
+roles-laid g w (grant a b) _ = (w .roles-lt, w .roles-ordinary)
+roles-laid g w (withdraw a b) _ = (w .roles-lt, w .roles-ordinary)
+roles-laid g w (add-edge a b) _ = (w .roles-lt, w .roles-ordinary)
+roles-laid g w (remove-edge a b) _ = (w .roles-lt, w .roles-ordinary)
+
+-- Whatever its checks let pass, a change lays the graph out.
+pub laid : (g : Graph) → Formed g → (c : Change) → Fits c → Passes (input-checks c) → Passes (state-checks g c) → Laid (edit c (redraw g))
+laid g w c f x y = record {
+  roles-lt = roles-laid g w c x .0;
+  roles-ordinary = roles-laid g w c x .1;
+  directs = directs-laid g w c f x y;
+  joins = joins-laid g (w .roles-lt) c f x y;
+}
 
 pub changed-formed : (g : Graph) → Formed g → (c : Change) → Fits c → Passes (input-checks c) → Passes (state-checks g c) → Formed (changed g c)
 unfolding changed

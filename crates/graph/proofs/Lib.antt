@@ -4,6 +4,7 @@ pub mod Refusals
 pub mod Conflicts
 pub mod Gathering
 pub mod Closing
+pub mod Heights
 pub mod Drawn
 pub mod Placing
 pub mod Edits

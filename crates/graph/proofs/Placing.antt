@@ -19,7 +19,8 @@ use Rattle.graph.specs.Refusing.{at-or-below}
 use Rattle.graph.specs.Invariants.{Formed}
 use Rattle.graph.proofs.Order.{not-above-max, edge-below}
 use Rattle.graph.proofs.Closing.{has-role, DirectsLaid, JoinsLaid, Laid}
-use Rattle.graph.proofs.Drawn.{order, ordinary-below, raised, direct-laid, edges-laid}
+use Rattle.graph.proofs.Heights.{order, ordinary-below, raised, edges-laid}
+use Rattle.graph.proofs.Drawn.{direct-laid}
 
 -- ---- direct privileges
 -- Direct sets stay laid under more roles.
@@ -63,7 +64,7 @@ unfolding at-or-below
 at-itself g r = or-left (eqb r r) (below g r r) (eqb-refl r)
 
 -- What is at or below a role is so for all that lie above it.
-pub at-or-below-up : (g : Graph) → Formed g → (b t r : ℕ) → T (below g t r) → T (at-or-below g b t) → T (at-or-below g b r)
+pub at-or-below-up : (g : Graph) → g .roles < 2 ^ role-count → (b t r : ℕ) → T (below g t r) → T (at-or-below g b t) → T (at-or-below g b r)
 unfolding at-or-below
 at-or-below-up g w b t r x h =
     or-right (eqb b r) (below g b r)
@@ -72,7 +73,7 @@ at-or-below-up g w b t r x h =
       | inr y ↦ order g w .transitive b t r y x
     ])
 
-module _ (g : Graph) (w : Formed g) where
+module _ (g : Graph) (w : g .roles < 2 ^ role-count) where
   -- ---- a new role a
   module _ (a : ℕ) (la : 2 ≤ a) (ka : a < role-count) (na : T (present g a) → ⊥) where
     R : ℕ
@@ -177,7 +178,9 @@ module _ (g : Graph) (w : Formed g) where
                 ]
           ]
 
-      place-laid : JoinsLaid R place
+      -- The edges of kind 1 make no circle.
+      pub place-laid : JoinsLaid (union (g .roles) (single a)) (λ t r. edge g t r || ((eqb r a && member t juniors) || (member r seniors && eqb t a)))
+      unfolding R place
       place-laid =
           raised g w R place class
           (λ t r x.
@@ -190,9 +193,9 @@ module _ (g : Graph) (w : Formed g) where
                 inr (subst (λ (i : ℕ). class t < class i) (sym e) (omega (arith, class-new, class-old t (js t m .0), one-fails (upper t) (not-junior t m))))
             | inr (inr (e, m)) ↦ inr (subst (λ (i : ℕ). class i < class r) (sym e) (class-upper r (senior-upper r r m (at-itself g r))))
           ])
-          (λ t m.
+          (λ t m l.
           elim (in-roles t m) [
-            | inl x ↦ inl (ordinary-below g w t x)
+            | inl x ↦ inl (ordinary-below g w t x l)
             | inr e ↦ inr (subst (λ (i : ℕ). class i < class max-role) (sym e) (class-upper max-role max-upper))
           ])
           (λ t r x.
@@ -202,28 +205,28 @@ module _ (g : Graph) (w : Formed g) where
             | inr (inr (e, m)) ↦ (subst (λ (i : ℕ). T (has-role R i)) (sym e) new-role, old-role r (ss r m .0), omega (arith, ss r m .1))
           ])
 
-      pub placed : (own : ℕ) → own < 2 ^ privilege-count → Laid (edit (add-by-place a own juniors seniors) (redraw g))
-      unfolding edit redraw R place present
-      placed own lo = record {
-        roles-lt = union-lt role-count _ _ (w .roles-lt) (single-lt role-count a ka);
-        roles-ordinary = λ r m. elim (in-roles r m) [ inl x ↦ w .roles-ordinary r x | inr e ↦ omega arith ];
-        directs = given-more R (direct g) a own (under-more (g .roles) R (direct g) (direct-laid g w) old-role) new-role (omega arith) lo;
-        joins = place-laid;
-      }
-
-    pub added : (own : ℕ) → own < 2 ^ privilege-count → Laid (edit (add-by-privileges a own) (redraw g))
-    unfolding edit redraw
-    added own lo =
-        let v = placed 0 0 (λ t m. absurd (in-empty t m)) (λ t m. absurd (in-empty t m)) (λ j s m n. absurd (in-empty j m)) own lo in
+    -- The drawn edges, with one role more, make no circle.
+    pub unplaced-laid : JoinsLaid (union (g .roles) (single a)) (edge g)
+    unfolding R place
+    unplaced-laid =
+        let v = place-laid 0 0 (λ t m. absurd (in-empty t m)) (λ t m. absurd (in-empty t m)) (λ j s m n. absurd (in-empty j m)) in
         record {
-          roles-lt = v .roles-lt;
-          roles-ordinary = v .roles-ordinary;
-          directs = v .directs;
-          joins = record {
-            height = v .joins .height;
-            falls = λ t r x. v .joins .falls t r (or-left (edge g t r) _ x);
-            top = v .joins .top;
-            joins-from = λ t r x. v .joins .joins-from t r (or-left (edge g t r) _ x);
-            joins-to = λ t r x. v .joins .joins-to t r (or-left (edge g t r) _ x);
-          };
+          height = v .height;
+          falls = λ t r x. v .falls t r (or-left (edge g t r) _ x);
+          top = v .top;
+          joins-from = λ t r x. v .joins-from t r (or-left (edge g t r) _ x);
+          joins-to = λ t r x. v .joins-to t r (or-left (edge g t r) _ x);
         }
+
+  -- The direct privileges with those of a new role.
+  pub own-laid : Formed g → (a : ℕ) → 2 ≤ a → a < role-count → (T (present g a) → ⊥) → (own : ℕ) → own < 2 ^ privilege-count
+      → DirectsLaid (union (g .roles) (single a)) (λ r. union (direct g r) (for-role a own r))
+  unfolding R present
+  own-laid v a la ka na own lo = given-more (R a la ka na) (direct g) a own (under-more (g .roles) (R a la ka na) (direct g) (direct-laid g v) (old-role a la ka na)) (new-role a la ka na) (omega arith) lo
+
+-- One ordinary role more.
+pub one-more : (g : Graph) → Formed g → (a : ℕ) → 2 ≤ a → a < role-count → (union (g .roles) (single a) < 2 ^ role-count) × ((r : ℕ) → T (member r (union (g .roles) (single a))) → 2 ≤ r)
+one-more g v a la ka = (
+  union-lt role-count _ _ (v .roles-lt) (single-lt role-count a ka),
+  λ r m. elim (in-union r (g .roles) (single a) m) [ inl x ↦ v .roles-ordinary r x | inr x ↦ (let e = in-single r a x in omega arith) ],
+)
