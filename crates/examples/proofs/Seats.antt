@@ -1,22 +1,15 @@
 -- Document 01, refusals that concern seats, and "Misreadings", on the bench graph.
 -- Assumes nothing.
-use mathlib.Core.Path.{_≡_, refl, ap, _∙_}
-use mathlib.Core.Bool.{Bool, true, false}
-use mathlib.Core.List.{List, [], _∷_, _++_}
-use Prim.Native.Nat.{ℕ, zero, suc}
-use lib.ListN.{length, set, take, replicate}
-use Rattle.sets.specs.Sets.{empty, single}
+use mathlib.Core.Path.{_≡_, refl}
+use mathlib.Core.Bool.{true, false}
+use mathlib.Core.List.{[], _∷_}
 use Rattle.graph.specs.Graph.{effective}
-use Rattle.graph.specs.Drawing.{below, direct, edge-count}
-use Rattle.graph.proofs.Examples.{set-of, table-one, one-to-eight}
-use Rattle.lists.specs.Runs.{run}
-use Rattle.seats.specs.Seats.{State, fresh}
-use Rattle.seats.specs.Calls.{Answer, accepted, answered, refused}
-use Rattle.seats.specs.Records.{step}
+use Rattle.graph.proofs.Examples.{set-of}
+use Rattle.seats.specs.Seats.{State}
+use Rattle.seats.specs.Calls.{accepted, answered, refused}
 use Rattle.seats.specs.Lists.{answers, end}
-use Rattle.seats.specs.Tape.{records, printed}
 use Rattle.seats.specs.Computes.{computes}
-use Rattle.seats.proofs.Examples.{call, plain, add, state-of, A, sample, spelled-out}
+use Rattle.seats.proofs.Examples.{plain, state-of, A, spelled-out}
 
 -- 24 at the lowest seat; 22 and 23 of seats; 30 where a change gives a seat a pair through its roles.
 seats-refuse : answers A (plain 10 9 5 ∷ plain 10 7 5 ∷ plain 3 5 1 ∷ plain 10 9 5 ∷ plain 11 9 4 ∷ plain 11 7 5 ∷ plain 12 9 5 ∷ plain 12 7 5 ∷ [])

@@ -1,22 +1,17 @@
 -- Document 01, "The tape": the sample tape from its bytes, with its answers, the state it leaves and the text printed.
 -- Assumes nothing.
-use mathlib.Core.Path.{_≡_, refl, ap, _∙_}
-use mathlib.Core.Bool.{Bool, true, false}
+use mathlib.Core.Path.{_≡_, refl}
+use mathlib.Core.Bool.{true}
 use mathlib.Core.List.{List, [], _∷_, _++_}
-use Prim.Native.Nat.{ℕ, zero, suc}
-use lib.ListN.{length, set, take, replicate}
-use Rattle.sets.specs.Sets.{empty, single}
-use Rattle.graph.specs.Graph.{effective}
-use Rattle.graph.specs.Drawing.{below, direct, edge-count}
-use Rattle.graph.proofs.Examples.{set-of, table-one, one-to-eight}
-use Rattle.lists.specs.Runs.{run}
-use Rattle.seats.specs.Seats.{State, fresh}
-use Rattle.seats.specs.Calls.{Answer, accepted, answered, refused}
-use Rattle.seats.specs.Records.{step}
+use Prim.Native.Nat.{ℕ}
+use lib.ListN.{replicate}
+use Rattle.graph.specs.Drawing.{edge-count}
+use Rattle.seats.specs.Seats.{fresh}
+use Rattle.seats.specs.Calls.{accepted, answered, refused}
 use Rattle.seats.specs.Lists.{answers, end}
 use Rattle.seats.specs.Tape.{records, printed}
 use Rattle.seats.specs.Computes.{computes}
-use Rattle.seats.proofs.Examples.{call, plain, add, state-of, A, sample, spelled-out}
+use Rattle.seats.proofs.Examples.{sample, spelled-out}
 
 -- ---- the sample tape
 -- The six records, byte for byte.

@@ -1,13 +1,13 @@
 -- The laws of conflicts: what holding a pair means, and what declaring and lifting change.
 -- Assumes nothing.
-use mathlib.Core.Path.{_≡_, refl, sym, ap, _∙_, subst}
-use mathlib.Core.Bool.{Bool, true, false, not, _&&_, _||_, and-true, and-false}
+use mathlib.Core.Path.{_≡_, sym, ap, _∙_, subst}
+use mathlib.Core.Bool.{Bool, not, _&&_, _||_}
 use mathlib.Core.Logic.{_≢_, _⊎_, inl, inr}
 use mathlib.Core.List.{List}
-use Prim.Native.Nat.{ℕ, _<_, _≤_, min, max}
+use Prim.Native.Nat.{ℕ, _<_, min, max}
 use native.Mathlib.Decide.{decLt}
 use native.Mathlib.Omega.{arith}
-use lib.Dec.{T, T-not, not-T, eqb, ltb, ltb→lt, lt→ltb}
+use lib.Dec.{T, eqb, ltb, ltb→lt, lt→ltb}
 use Rattle.sets.specs.Counting.{any}
 use Rattle.sets.specs.Sets.{member}
 use Rattle.sets.proofs.Tests.{both, join, either, or-left, or-right, same-test, equal-test, test-equal, or-out, and-regroup}

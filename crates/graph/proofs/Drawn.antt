@@ -1,9 +1,9 @@
 -- The laws of the graph as drawn from its sets: closing gives the sets back, what roles hold by paths, and which other edges make no circle.
 -- Assumes nothing.
 use mathlib.Core.Path.{_≡_, refl, sym, subst}
-use mathlib.Core.Bool.{Bool, not}
-use mathlib.Core.Logic.{_↔_, _≢_, _⊎_, inl, inr}
-use Prim.Native.Nat.{ℕ, zero, suc, _+_, _*_, _<_, _≤_, _^_}
+use mathlib.Core.Bool.{not}
+use mathlib.Core.Logic.{_↔_, _⊎_, inl, inr}
+use Prim.Native.Nat.{ℕ, zero, suc, _<_, _≤_, _^_}
 use native.Mathlib.Nat.{not-suc-le-zero, lt-suc-self}
 use native.Mathlib.Omega.{arith}
 use lib.Dec.{T, eqb}
@@ -11,18 +11,17 @@ use Rattle.sets.specs.Sets.{member, included, strictly-included, gather}
 use Rattle.sets.proofs.Tests.{both, decide}
 use Rattle.sets.proofs.Laws.{included-member, difference-lt}
 use Rattle.sets.proofs.Members.{in-difference, difference-in, in-gather, no-members}
-use Rattle.order.specs.Paths.{Path, last, then, StrictOrder}
+use Rattle.order.specs.Paths.{Path, last, then}
 use Rattle.order.proofs.Drawing.{_⧺_}
-use Rattle.order.proofs.Rank.{rank, rank-le, rank-lt}
 use Rattle.graph.specs.Tables.{at}
-use Rattle.graph.specs.Graph.{Graph, role-count, privilege-count, min-role, max-role, present, effective}
+use Rattle.graph.specs.Graph.{Graph, role-count, privilege-count, min-role, present, effective}
 use Rattle.graph.specs.Drawing.{Drawing, below, edge, direct, redraw}
 use Rattle.graph.specs.Closing.{counts, close}
 use Rattle.graph.specs.Invariants.{Formed}
 use Rattle.graph.proofs.Tables.{table-ext, entry-in, at-end}
-use Rattle.graph.proofs.Order.{Edge, from-min, to-max, inside, present-cases, member-present, below-cases, below-order, below-max, above-min, edge-below, path-iff-below}
+use Rattle.graph.proofs.Order.{Edge, from-min, to-max, inside, present-cases, below-cases, edge-below, path-iff-below}
 use Rattle.graph.proofs.Heights.{order, ordinary-below, tall, tall-lt, edges-laid}
-use Rattle.graph.proofs.Closing.{has-role, DirectsLaid, JoinsLaid, Laid, counted, count-join, closed-length, closed-by, closed-member}
+use Rattle.graph.proofs.Closing.{DirectsLaid, Laid, counted, count-join, closed-length, closed-by, closed-member}
 
 -- p is direct in r, or in a role from which a path leads to r.
 abbrev pub Reached : Graph → ℕ → ℕ → Type 0

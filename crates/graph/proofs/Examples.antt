@@ -1,16 +1,16 @@
 -- What the definitions make of document 01's bench graph, by evaluation: drawing, closing, the edits and the refusals that need no seat.
 -- Assumes nothing.
 use mathlib.Core.Path.{_≡_, refl}
-use mathlib.Core.Bool.{Bool, true, false}
+use mathlib.Core.Bool.{true}
 use mathlib.Core.List.{List, [], _∷_, _++_}
 use Prim.Native.Nat.{ℕ, zero, suc, _+_}
 use lib.ListN.{set, replicate}
 use Rattle.sets.specs.Sets.{empty, single, union}
 use Rattle.graph.specs.Graph.{Graph, fresh, effective, max-role}
 use Rattle.graph.specs.Conflicts.{declare}
-use Rattle.graph.specs.Drawing.{below, edge, edge-count, direct}
-use Rattle.graph.specs.Editing.{Change, add-by-place, add-by-privileges, remove-role, grant, withdraw, add-edge, remove-edge, changed}
-use Rattle.graph.specs.Refusing.{Verdict, passed, refused, verdict, judged, declare-checks, lift-checks}
+use Rattle.graph.specs.Drawing.{edge, edge-count, direct}
+use Rattle.graph.specs.Editing.{add-by-place, add-by-privileges, remove-role, grant, withdraw, add-edge, remove-edge, changed}
+use Rattle.graph.specs.Refusing.{passed, refused, verdict, judged, declare-checks}
 use Rattle.graph.specs.Computes.{computes}
 
 -- The set of the listed members.

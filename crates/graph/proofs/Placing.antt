@@ -13,12 +13,12 @@ use Rattle.sets.proofs.Counting.{any-some, some-any}
 use Rattle.sets.proofs.Laws.{union-lt, single-lt, when-lt}
 use Rattle.sets.proofs.Members.{in-union, union-left, union-right, in-when, in-single, single-in, in-empty}
 use Rattle.graph.specs.Graph.{Graph, role-count, privilege-count, max-role, is-end, present}
-use Rattle.graph.specs.Drawing.{below, edge, direct, redraw}
-use Rattle.graph.specs.Editing.{for-role, edit, add-by-place, add-by-privileges}
+use Rattle.graph.specs.Drawing.{below, edge, direct}
+use Rattle.graph.specs.Editing.{for-role}
 use Rattle.graph.specs.Refusing.{at-or-below}
 use Rattle.graph.specs.Invariants.{Formed}
 use Rattle.graph.proofs.Order.{not-above-max, edge-below}
-use Rattle.graph.proofs.Closing.{has-role, DirectsLaid, JoinsLaid, Laid}
+use Rattle.graph.proofs.Closing.{has-role, DirectsLaid, JoinsLaid}
 use Rattle.graph.proofs.Heights.{order, ordinary-below, raised, edges-laid}
 use Rattle.graph.proofs.Drawn.{direct-laid}
 

@@ -1,5 +1,5 @@
 -- Document 01, "The twelve calls", kinds 1 to 7: what each does to the drawn graph, and the graph that closing makes of it.
-use mathlib.Core.Bool.{Bool, not, _&&_, _||_}
+use mathlib.Core.Bool.{not, _&&_, _||_}
 use Prim.Native.Nat.{ℕ}
 use lib.Dec.{eqb}
 use Rattle.sets.specs.Sets.{member, single, union, difference, when}

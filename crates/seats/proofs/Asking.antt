@@ -2,23 +2,22 @@
 -- Assumes nothing.
 use mathlib.Core.Path.{_≡_, refl, sym, ap, _∙_, subst}
 use mathlib.Core.Bool.{Bool, true, false, cond, _&&_}
-use mathlib.Core.Logic.{_↔_, _⊎_, inl, inr}
-use mathlib.Core.List.{List, [], _∷_}
-use Prim.Native.Nat.{ℕ, _<_, _≤_, _^_}
+use mathlib.Core.Logic.{_↔_, inl, inr}
+use Prim.Native.Nat.{ℕ, _<_, _≤_}
 use native.Mathlib.Omega.{arith}
 use lib.Dec.{T, leb, leb→le, le→leb}
-use Rattle.sets.specs.Sets.{member, gather}
-use Rattle.sets.proofs.Tests.{passes, decide, fails}
-use Rattle.sets.proofs.Laws.{member-lt, gather-lt}
+use Rattle.sets.specs.Sets.{member}
+use Rattle.sets.proofs.Tests.{passes}
+use Rattle.sets.proofs.Laws.{member-lt}
 use Rattle.sets.proofs.Members.{in-gather, gather-in}
 use Rattle.graph.specs.Graph.{role-count, privilege-count, effective}
 use Rattle.graph.specs.Tables.{at}
 use Rattle.graph.proofs.Tables.{entry-in}
 use Rattle.graph.proofs.Drawn.{Reached, effective-iff, effective-lt}
-use Rattle.graph.proofs.Refusals.{Passes, number-lt}
+use Rattle.graph.proofs.Refusals.{Passes}
 use Rattle.seats.specs.Bytes.{number-at}
 use Rattle.seats.specs.Seats.{State, seat-count, assigned, held, may-use}
-use Rattle.seats.specs.Calls.{Call, ask, Answer, answered, refused, checks, after, reply, perform}
+use Rattle.seats.specs.Calls.{ask, Answer, answered, refused, checks, reply, perform}
 use Rattle.seats.specs.Records.{Decoded, malformed, well-formed, all-empty, fields, unused, kind, kinds, decode, perform-decoded, step}
 use Rattle.seats.specs.ListTheorem.{ask-record, MayUse}
 use Rattle.seats.specs.Invariants.{Invariant}

@@ -1,24 +1,19 @@
 -- Document 01's saved sample, its edges, and what is refused as a record or an image, each by evaluation of the definitions.
 -- Assumes nothing.
-use mathlib.Core.Path.{_≡_, refl, ap, _∙_}
-use mathlib.Core.Bool.{Bool, true, false}
+use mathlib.Core.Path.{_≡_, refl}
+use mathlib.Core.Bool.{false}
 use mathlib.Core.List.{List, [], _∷_, _++_}
-use Prim.Native.Nat.{ℕ, zero, suc, _+_, _*_}
-use lib.ListN.{length, set, take, replicate}
-use lib.Dec.{T}
+use Prim.Native.Nat.{ℕ, _+_, _*_}
+use lib.ListN.{length, take, replicate}
 use Rattle.sets.specs.Sets.{empty, single}
-use Rattle.graph.specs.Graph.{effective}
-use Rattle.graph.specs.Drawing.{below, direct, edge-count}
-use Rattle.graph.proofs.Examples.{set-of, graph-of, table-one, one-to-eight, written-out}
-use Rattle.lists.specs.Runs.{run}
+use Rattle.graph.proofs.Examples.{set-of, graph-of, table-one, written-out}
 use Rattle.seats.specs.Bytes.{bytes-of, written, too-short}
-use Rattle.seats.specs.Seats.{State, fresh, held}
-use Rattle.seats.specs.Calls.{Answer, accepted, answered, refused}
+use Rattle.seats.specs.Seats.{State, fresh}
+use Rattle.seats.specs.Calls.{answered, refused}
 use Rattle.seats.specs.Records.{step}
 use Rattle.seats.specs.Images.{image, loaded, not-loaded, load, load-over}
 use Rattle.seats.specs.Saving.{save}
-use Rattle.seats.specs.Lists.{answers, end}
-use Rattle.seats.specs.Tape.{records, printed}
+use Rattle.seats.specs.Tape.{printed}
 use Rattle.seats.specs.Computes.{computes}
 
 -- ---- what the examples are written with

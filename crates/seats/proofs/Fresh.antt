@@ -1,20 +1,19 @@
 -- A fresh state has the invariants.
 -- Assumes nothing.
-use mathlib.Core.Path.{_≡_, refl, sym, subst}
-use mathlib.Core.Bool.{not, _&&_}
-use mathlib.Core.List.{List}
+use mathlib.Core.Path.{sym, subst}
+use mathlib.Core.Bool.{not}
 use Prim.Native.Nat.{ℕ, _<_, _^_}
-use lib.ListN.{length, replicate, length-replicate}
+use lib.ListN.{replicate, length-replicate}
 use lib.Pow.{pow-pos}
 use lib.Dec.{T}
-use Rattle.sets.specs.Sets.{empty, member, included}
+use Rattle.sets.specs.Sets.{empty, member}
 use Rattle.sets.proofs.Tests.{both}
 use Rattle.sets.proofs.Members.{in-empty}
 use Rattle.graph.specs.Tables.{at}
-use Rattle.graph.specs.Graph.{Graph, role-count, privilege-count, is-end, ordinary, present, effective}
+use Rattle.graph.specs.Graph.{role-count, privilege-count, is-end, ordinary, present, effective}
 use Rattle.graph.specs.Graph as graph
 use Rattle.graph.specs.Conflicts.{holds-pair}
-use Rattle.graph.specs.Invariants.{Table, Formed, Distinct, Paired, Kept}
+use Rattle.graph.specs.Invariants.{Table}
 use Rattle.graph.proofs.Tables.{at-replicate}
 use Rattle.graph.proofs.Conflicts.{pair-found, conflict-parts}
 use Rattle.seats.specs.Seats.{fresh, seat-count, assigned, held, pair-seat}

@@ -1,15 +1,14 @@
 -- After a list, the ordinary roles, the conflicts and the seats' roles are those that its accepted calls say.
 -- Assumes nothing.
 use mathlib.Core.Path.{_≡_, refl, sym, ap, _∙_, subst}
-use mathlib.Core.Bool.{Bool, true, false, not, _&&_, _||_}
-use mathlib.Core.Logic.{_≢_}
-use mathlib.Core.List.{List, [], _∷_, _++_}
-use Prim.Native.Nat.{ℕ, _<_}
+use mathlib.Core.Bool.{Bool, not, _&&_, _||_}
+use mathlib.Core.List.{List}
+use Prim.Native.Nat.{ℕ}
 use lib.Dec.{T, not-T, eqb}
-use Rattle.sets.specs.Sets.{member, single, union, difference}
+use Rattle.sets.specs.Sets.{member, single, union}
 use Rattle.sets.proofs.Tests.{or-out, and-regroup, test-equal}
 use Rattle.sets.proofs.Laws.{member-union, member-difference, member-single}
-use Rattle.lists.specs.Runs.{run, unrefused, trace, Each}
+use Rattle.lists.specs.Runs.{Each}
 use Rattle.lists.proofs.Runs.{run-trace}
 use Rattle.graph.specs.Graph.{Graph, privilege-count, is-end, ordinary}
 use Rattle.graph.specs.Conflicts.{declared}
@@ -21,11 +20,11 @@ use Rattle.graph.proofs.Conflicts.{declare-test, lift-test}
 use Rattle.graph.proofs.Refusals.{Passes, parts, number-lt, not-equal}
 use Rattle.seats.specs.Bytes.{Bytes}
 use Rattle.seats.specs.Seats.{State, seat-count, assigned}
-use Rattle.seats.specs.Calls.{Call, change, declare, lift, assign, unassign, ask, Answer, checks, with-graph, with-conflicts, with-seats, after, perform, is-refusal}
-use Rattle.seats.specs.Records.{Decoded, malformed, well-formed, decode, perform-decoded, step}
+use Rattle.seats.specs.Calls.{Call, change, declare, lift, assign, unassign, ask, Answer, checks, with-graph, with-conflicts, with-seats, after, is-refusal}
+use Rattle.seats.specs.Records.{Decoded, decode, perform-decoded, step}
 use Rattle.seats.specs.Lists.{answers, end, without-refused, presence-change, presence, declaration, assignment, by-call, history}
 use Rattle.seats.specs.Invariants.{Invariant}
-use Rattle.seats.proofs.Settling.{refused-leaves, Carries, accepted-carries}
+use Rattle.seats.proofs.Settling.{refused-leaves, accepted-carries}
 use Rattle.seats.proofs.Recorded.{step-keeps}
 
 -- ---- roles

@@ -1,28 +1,27 @@
 -- Every accepted call keeps the invariants.
 -- Assumes nothing.
-use mathlib.Core.Path.{_≡_, refl, sym, ap, _∙_, subst}
-use mathlib.Core.Bool.{Bool, true, false, not, _&&_, _||_}
+use mathlib.Core.Path.{_≡_, sym, _∙_, subst}
+use mathlib.Core.Bool.{not, _&&_}
 use mathlib.Core.Logic.{_≢_, _⊎_, inl, inr}
-use mathlib.Core.List.{List, [], _∷_, _++_}
-use Prim.Native.Nat.{ℕ, _<_, _≤_, min, max}
+use mathlib.Core.List.{List}
+use Prim.Native.Nat.{ℕ, _<_}
 use native.Mathlib.Omega.{arith}
-use lib.Dec.{T, T-not, eqb}
-use Rattle.sets.specs.Counting.{any}
-use Rattle.sets.specs.Sets.{member, single, union, difference, gather}
-use Rattle.sets.proofs.Tests.{both, join, either, or-left, or-right, so, equal-test, test-equal}
+use lib.Dec.{T, eqb}
+use Rattle.sets.specs.Sets.{member, single}
+use Rattle.sets.proofs.Tests.{both, join, either, so, test-equal}
 use Rattle.sets.proofs.Counting.{some-any}
 use Rattle.sets.proofs.Members.{union-left, difference-in, in-single, in-gather, gather-in}
-use Rattle.graph.specs.Tables.{at, put, take-out}
-use Rattle.graph.specs.Graph.{Graph, role-count, privilege-count, is-end, ordinary, present, effective}
-use Rattle.graph.specs.Conflicts.{conflict, declared, same-pair, holds-both, holds-pair}
+use Rattle.graph.specs.Tables.{at, take-out}
+use Rattle.graph.specs.Graph.{Graph, role-count, privilege-count, ordinary, present, effective}
+use Rattle.graph.specs.Conflicts.{declared, same-pair, holds-both, holds-pair}
 use Rattle.graph.specs.Conflicts as conflicts
 use Rattle.graph.specs.Drawing.{redraw}
 use Rattle.graph.specs.Editing.{Change, add-by-place, add-by-privileges, remove-role, grant, withdraw, add-edge, remove-edge, edit, changed}
 use Rattle.graph.specs.Refusing.{input-checks, state-checks, still-below, closed-checks, declare-checks, lift-checks, offered-role}
-use Rattle.graph.specs.Invariants.{Table, Formed, Distinct, Paired, Kept}
+use Rattle.graph.specs.Invariants.{Formed, Distinct, Paired}
 use Rattle.graph.proofs.Tables.{entry-in, put-test, put-table, take-out-test, take-out-table}
 use Rattle.graph.proofs.Order.{ordinary-parts, ordinary-join, ordinary-lt, not-end, present-cases}
-use Rattle.graph.proofs.Conflicts.{conflict-parts, conflict-join, pair-found, pair-holds, pair-more, declared-in-order, declared-swap, declare-test, lift-test, declare-paired, lift-paired, conflict-lt}
+use Rattle.graph.proofs.Conflicts.{conflict-parts, pair-found, pair-holds, pair-more, declared-in-order, declare-test, lift-test, declare-paired, lift-paired, conflict-lt}
 use Rattle.graph.proofs.Edits.{Fits, changed-formed}
 use Rattle.graph.proofs.Refusals.{Passes, parts, number-lt, not-equal, closed-from, closed-goes}
 use Rattle.seats.specs.Seats.{State, seat-count, assigned, held, pair-seat, offered-seat}

@@ -1,29 +1,28 @@
 -- Demand 3: the list theorem holds from every start, for every list of records.
 -- Assumes nothing.
-use mathlib.Core.Path.{_≡_, refl, sym, ap, _∙_, subst}
-use mathlib.Core.Bool.{Bool, true, false, not, _&&_, _||_}
-use mathlib.Core.Logic.{_↔_, _≢_, _⊎_, inl, inr}
-use mathlib.Core.List.{List, [], _∷_, map}
-use Prim.Native.Nat.{ℕ, _<_, _≤_, min, max}
+use mathlib.Core.Path.{_≡_, sym, ap, _∙_, subst}
+use mathlib.Core.Bool.{Bool}
+use mathlib.Core.Logic.{_↔_, _≢_, inl, inr}
+use mathlib.Core.List.{List, map}
+use Prim.Native.Nat.{ℕ}
 use native.Mathlib.Omega.{arith}
 use lib.Dec.{T}
-use Rattle.sets.specs.Sets.{member, strictly-included}
+use Rattle.sets.specs.Sets.{member}
 use Rattle.sets.proofs.Tests.{either, or-left, or-right}
-use Rattle.order.specs.Paths.{Path, Between, SamePaths}
-use Rattle.lists.specs.Runs.{run, unrefused, Each, Chain}
+use Rattle.order.specs.Paths.{Between, SamePaths}
+use Rattle.lists.specs.Runs.{run, Each, Chain}
 use Rattle.lists.proofs.Runs.{run-keeps, answers-length, chain-runs, run-unrefused}
-use Rattle.graph.specs.Graph.{Graph, privilege-count, max-role, is-end, ordinary, present, effective}
-use Rattle.graph.specs.Conflicts.{declared, conflict, holds-pair}
+use Rattle.graph.specs.Graph.{max-role, is-end, ordinary, present, effective}
+use Rattle.graph.specs.Conflicts.{declared, holds-pair}
 use Rattle.graph.specs.Drawing.{edge}
-use Rattle.graph.specs.Invariants.{Paired, Formed, Kept}
 use Rattle.graph.proofs.Order.{Edge, is-end-lt, lt-is-end, present-cases, end-present, ordinary-present, path-iff-below, no-circle, path-iff-included, fewest}
 use Rattle.graph.proofs.Drawn.{Reached}
 use Rattle.graph.proofs.Conflicts.{pair-holds, conflict-lt, declared-parts}
 use Rattle.seats.specs.Bytes.{Bytes}
-use Rattle.seats.specs.Seats.{State, fresh, seat-count, assigned, held, may-use, pair-seat}
+use Rattle.seats.specs.Seats.{State, assigned, held, may-use, pair-seat}
 use Rattle.seats.specs.Calls.{Answer, is-refusal}
 use Rattle.seats.specs.Records.{step}
-use Rattle.seats.specs.Lists.{answers, end, without-refused, presence, history}
+use Rattle.seats.specs.Lists.{answers, end, without-refused}
 use Rattle.seats.specs.ListTheorem.{Start, from-fresh, from-image, Present, present-by-calls, Declared, Assigned, MayUse, ListTheorem, DemandThree}
 use Rattle.seats.specs.Invariants.{Invariant}
 use Rattle.seats.proofs.Settling.{refused-leaves}

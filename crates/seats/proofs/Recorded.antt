@@ -1,19 +1,19 @@
 -- A record of bytes carries sets of their width, so every record keeps the invariants.
 -- Assumes nothing.
-use mathlib.Core.Path.{_≡_, refl, sym, ap, _∙_, subst}
+use mathlib.Core.Path.{sym, subst}
 use mathlib.Core.Bool.{Bool, true, false, cond, _&&_}
-use mathlib.Core.Logic.{_⊎_, inl, inr}
+use mathlib.Core.Logic.{inl, inr}
 use mathlib.Core.List.{List, [], _∷_}
-use Prim.Native.Nat.{ℕ, zero, suc, _+_, _*_, _<_, _^_}
+use Prim.Native.Nat.{ℕ, zero, suc, _<_, _^_}
 use native.Mathlib.Nat.{pow-suc, zero-lt-suc}
 use native.Mathlib.Omega.{arith}
 use lib.ListN.{getD, length}
-use lib.Dec.{T, leb, eqb}
+use lib.Dec.{leb, eqb}
 use Rattle.lists.specs.Runs.{Each}
 use Rattle.graph.specs.Editing.{add-by-place, add-by-privileges, remove-role, grant, withdraw, add-edge, remove-edge}
 use Rattle.seats.specs.Bytes.{number-at, Bytes}
 use Rattle.seats.specs.Seats.{State}
-use Rattle.seats.specs.Calls.{Call, change, declare, lift, assign, unassign, ask, Answer, after, perform}
+use Rattle.seats.specs.Calls.{Call, change, declare, lift, assign, unassign, ask, Answer, perform}
 use Rattle.seats.specs.Records.{record-length, Decoded, malformed, well-formed, Fields, fields, unused, kind, kinds, decode, perform-decoded, step}
 use Rattle.seats.specs.Invariants.{Invariant}
 use Rattle.seats.proofs.Settling.{settled}

@@ -1,17 +1,17 @@
 -- One call: it is refused and leaves the state, or nothing refuses it and it leaves the state after it.
 -- Assumes nothing.
-use mathlib.Core.Path.{_≡_, refl, sym, ap, _∙_, subst}
-use mathlib.Core.Bool.{Bool, true, false, not}
+use mathlib.Core.Path.{_≡_, refl, ap, subst}
+use mathlib.Core.Bool.{true, not}
 use mathlib.Core.Logic.{_⊎_, inl, inr}
-use mathlib.Core.List.{List, [], _∷_, _++_}
+use mathlib.Core.List.{List}
 use Prim.Native.Nat.{ℕ}
 use lib.Dec.{T}
-use Rattle.graph.specs.Editing.{Change, add-by-place, add-by-privileges, remove-role, grant, withdraw, add-edge, remove-edge}
-use Rattle.graph.specs.Refusing.{Check, Verdict, passed, verdict, input-checks, state-checks, still-below, closed-checks, declare-checks, lift-checks}
+use Rattle.graph.specs.Editing.{add-by-place, add-by-privileges, remove-role, grant, withdraw, add-edge, remove-edge}
+use Rattle.graph.specs.Refusing.{Verdict, passed, verdict, input-checks, state-checks, still-below, closed-checks, declare-checks, lift-checks}
 use Rattle.graph.specs.Refusing as refusing
 use Rattle.graph.proofs.Refusals.{Passes, passed-passes, verdict-passes, ascending-numbers, ascending-from}
 use Rattle.seats.specs.Seats.{State}
-use Rattle.seats.specs.Calls.{Call, change, declare, lift, assign, unassign, ask, Answer, accepted, answered, refused, seat-checks, checks, after, reply, settle, perform, is-refusal}
+use Rattle.seats.specs.Calls.{Call, change, declare, lift, assign, unassign, ask, Answer, refused, seat-checks, checks, after, reply, settle, perform, is-refusal}
 use Rattle.seats.specs.Records.{Decoded, malformed, well-formed, decode, perform-decoded, step}
 
 -- A refusal of the call, with its number and place, that leaves the state.

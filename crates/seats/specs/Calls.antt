@@ -4,7 +4,7 @@ use mathlib.Core.List.{List, [], _∷_, _++_}
 use Prim.Native.Nat.{ℕ}
 use lib.Dec.{leb}
 use Rattle.graph.specs.Tables.{put, take-out}
-use Rattle.graph.specs.Graph.{Graph, role-count}
+use Rattle.graph.specs.Graph.{Graph}
 use Rattle.graph.specs.Conflicts as conflicts
 use Rattle.graph.specs.Editing.{Change, add-by-place, add-by-privileges, remove-role, grant, withdraw, add-edge, remove-edge, changed}
 use Rattle.graph.specs.Refusing.{Check, refuse, refuse-lowest, Verdict, passed, verdict, no-role-number, no-privilege-number, end-role, role-absent, input-checks, state-checks, still-below, closed-checks, declare-checks, lift-checks}

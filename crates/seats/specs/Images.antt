@@ -1,11 +1,11 @@
 -- Document 01, "The saved image": the bytes of a state, and what loading makes of any bytes.
-use mathlib.Core.Bool.{Bool, cond, not, true, false, _&&_, _||_}
+use mathlib.Core.Bool.{Bool, cond, not, false, _&&_, _||_}
 use mathlib.Core.List.{List, [], _∷_, _++_}
 use Prim.Native.Nat.{ℕ, zero, suc, _+_, _-_, _*_, _/_, _%_}
-use lib.ListN.{length, getD, drop, set, replicate}
+use lib.ListN.{length, getD, set, replicate}
 use lib.Dec.{eqb, leb, ltb}
 use Rattle.sets.specs.Counting.{any}
-use Rattle.sets.specs.Sets.{empty, member, single, union, included}
+use Rattle.sets.specs.Sets.{empty, single, union, included}
 use Rattle.graph.specs.Tables.{at, put}
 use Rattle.graph.specs.Graph.{Graph, role-count, privilege-count, max-role, is-end, ordinary, effective}
 use Rattle.graph.specs.Conflicts.{conflict}

@@ -1,8 +1,7 @@
 -- What every state has that a list of calls leaves: the graph's invariants and those of the seats.
-use mathlib.Core.List.{List}
 use Prim.Native.Nat.{ℕ, _<_}
 use lib.Dec.{T}
-use Rattle.graph.specs.Graph.{Graph, role-count, ordinary}
+use Rattle.graph.specs.Graph.{role-count, ordinary}
 use Rattle.graph.specs.Invariants.{Table, Kept}
 use Rattle.seats.specs.Seats.{State, seat-count, assigned, pair-seat}
 

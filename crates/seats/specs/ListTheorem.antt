@@ -2,14 +2,14 @@
 use mathlib.Core.Path.{_≡_}
 use mathlib.Core.Bool.{Bool, true, _||_}
 use mathlib.Core.Logic.{_↔_, _≢_, _⊎_}
-use mathlib.Core.List.{List, [], _∷_, _++_, map}
+use mathlib.Core.List.{List, _∷_, map}
 use Prim.Native.Nat.{ℕ}
 use lib.ListN.{length, replicate}
 use lib.Dec.{T}
 use Rattle.sets.specs.Sets.{member, strictly-included}
 use Rattle.order.specs.Paths.{Path, Between, SamePaths}
 use Rattle.lists.specs.Runs.{unrefused, Each, Chain}
-use Rattle.graph.specs.Graph.{Graph, max-role, is-end, ordinary, effective}
+use Rattle.graph.specs.Graph.{max-role, is-end, ordinary, effective}
 use Rattle.graph.specs.Conflicts.{declared}
 use Rattle.graph.specs.Drawing.{below, edge, direct}
 use Rattle.seats.specs.Bytes.{Bytes}

@@ -1,10 +1,9 @@
 -- Document 01, "Lists of calls": what a list of records makes of a state, and what its accepted calls say is present, declared and assigned.
 use mathlib.Core.Bool.{Bool, not, _&&_, _||_}
-use mathlib.Core.List.{List, [], _∷_}
+use mathlib.Core.List.{List}
 use Prim.Native.Nat.{ℕ}
 use lib.Dec.{T, eqb}
 use Rattle.lists.specs.Runs.{run, unrefused, trace}
-use Rattle.order.specs.Paths.{Path}
 use Rattle.graph.specs.Graph.{Graph}
 use Rattle.graph.specs.Conflicts.{same-pair}
 use Rattle.graph.specs.Drawing.{edge}

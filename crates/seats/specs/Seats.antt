@@ -1,5 +1,5 @@
 -- Document 01, "Roles, privileges and sets" and kinds 10 to 12: the state of a keeper, a role graph with the roles of each seat.
-use mathlib.Core.Bool.{Bool, _&&_}
+use mathlib.Core.Bool.{Bool}
 use mathlib.Core.List.{List}
 use Prim.Native.Nat.{ℕ}
 use lib.ListN.{replicate}

@@ -5,7 +5,7 @@ use Prim.Native.Nat.{ℕ, zero, suc, _+_, _/_, _%_}
 use lib.ListN.{length, take, drop}
 use lib.Dec.{ltb}
 use Rattle.graph.specs.Drawing.{edge-count}
-use Rattle.seats.specs.Seats.{State, fresh}
+use Rattle.seats.specs.Seats.{fresh}
 use Rattle.seats.specs.Calls.{Answer, accepted, answered, refused}
 use Rattle.seats.specs.Records.{record-length}
 use Rattle.seats.specs.Lists.{answers, end}
