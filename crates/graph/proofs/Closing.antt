@@ -1,7 +1,7 @@
 -- The laws of closing: of a drawing without a circle it gives the one solution of the paper's equation, what its sets hold, and a formed graph.
 -- Assumes nothing.
 use mathlib.Core.Path.{_≡_, refl, sym, ap, _∙_, subst}
-use mathlib.Core.Bool.{Bool, not, _&&_, _||_}
+use mathlib.Core.Bool.{Bool, not, _&&_}
 use mathlib.Core.Logic.{_↔_, _⊎_, inl, inr}
 use mathlib.Core.List.{List}
 use Prim.Native.Nat.{ℕ, zero, suc, _<_, _≤_, _^_}
@@ -21,6 +21,7 @@ use Rattle.graph.specs.Tables.{at, table}
 use Rattle.graph.specs.Graph.{role-count, privilege-count, max-role, is-end, present, effective}
 use Rattle.graph.specs.Drawing.{Drawing}
 use Rattle.graph.specs.Closing.{counts, gathered, close}
+use Rattle.graph.specs.Working.{has-role, JoinsLaid}
 use Rattle.graph.specs.Invariants.{Formed}
 use Rattle.graph.proofs.Tables.{at-table, length-table, entry-in, at-end}
 use Rattle.graph.proofs.Gathering.{gathered-cong, gathered-lt, equation, unique}
@@ -44,22 +45,10 @@ unfolding close
 closed-length d = length-table role-count _
 
 -- ---- drawings that close well
--- A role of a drawing with the ordinary roles R.
-abbrev pub has-role : ℕ → ℕ → Bool
-has-role R r = is-end r || member r R
-
 -- Only roles other than MinRole have direct privileges.
 pub record DirectsLaid (R : ℕ) (directs : ℕ → ℕ) : Type 0 where
   pub direct-lt : (r : ℕ) → directs r < 2 ^ privilege-count
   pub direct-of : (p r : ℕ) → T (member p (directs r)) → T (has-role R r) × (1 ≤ r)
-
--- Edges run between roles, none to MinRole, and a height rises along them and from ordinary roles to MaxRole.
-pub record JoinsLaid (R : ℕ) (joins : ℕ → ℕ → Bool) : Type 0 where
-  pub height : ℕ → ℕ
-  pub falls : (t r : ℕ) → T (joins t r) → height t < height r
-  pub top : (t : ℕ) → T (member t R) → 2 ≤ t → height t < height max-role
-  pub joins-from : (t r : ℕ) → T (joins t r) → T (has-role R t)
-  pub joins-to : (t r : ℕ) → T (joins t r) → T (has-role R r) × (1 ≤ r)
 
 pub record Laid (d : Drawing) : Type 0 where
   pub roles-lt : d .roles < 2 ^ role-count

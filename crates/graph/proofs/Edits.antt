@@ -17,7 +17,8 @@ use Rattle.graph.specs.Refusing.{input-checks, at-or-below, state-checks
 use Rattle.graph.specs.Invariants.{Formed}
 use Rattle.graph.proofs.Order.{not-end, edge-below}
 use Rattle.graph.proofs.Refusals.{Passes, number-lt, no-end-in, not-equal, all-present, no-circle-in}
-use Rattle.graph.proofs.Closing.{has-role, DirectsLaid, JoinsLaid, Laid, closed-formed}
+use Rattle.graph.specs.Working.{has-role, JoinsLaid}
+use Rattle.graph.proofs.Closing.{DirectsLaid, Laid, closed-formed}
 use Rattle.graph.proofs.Heights.{order, ordinary-below, raised, ordered, edges-laid}
 use Rattle.graph.proofs.Drawn.{direct-laid}
 use Rattle.graph.proofs.Placing.{given-more, one-if, one-passes, one-fails, one-le, at-or-below-cases, at-itself, at-or-below-up, place-laid, unplaced-laid, own-laid, one-more}

@@ -12,7 +12,7 @@ use Rattle.order.proofs.Rank.{rank, rank-le, rank-lt}
 use Rattle.graph.specs.Graph.{Graph, role-count, max-role, present}
 use Rattle.graph.specs.Drawing.{below, edge}
 use Rattle.graph.proofs.Order.{member-present, below-order, below-max, above-min, edge-below}
-use Rattle.graph.proofs.Closing.{has-role, JoinsLaid}
+use Rattle.graph.specs.Working.{has-role, JoinsLaid}
 
 module _ (g : Graph) (h : g .roles < 2 ^ role-count) where
   pub order : StrictOrder role-count (present g) (below g)

@@ -8,6 +8,16 @@ pub mod Heights
 pub mod Drawn
 pub mod Placing
 pub mod Edits
+pub mod Arrays
+pub mod Carrying
+pub mod Attempts
 pub mod Changes
 pub mod Adding
+pub mod Drawings
+pub mod Loops
+pub mod Searching
+pub mod Acyclic
+pub mod Memo
+pub mod Stores
+pub mod Judging
 pub mod Examples

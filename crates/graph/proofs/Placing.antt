@@ -18,7 +18,8 @@ use Rattle.graph.specs.Editing.{for-role}
 use Rattle.graph.specs.Refusing.{at-or-below}
 use Rattle.graph.specs.Invariants.{Formed}
 use Rattle.graph.proofs.Order.{not-above-max, edge-below}
-use Rattle.graph.proofs.Closing.{has-role, DirectsLaid, JoinsLaid}
+use Rattle.graph.specs.Working.{has-role, JoinsLaid}
+use Rattle.graph.proofs.Closing.{DirectsLaid}
 use Rattle.graph.proofs.Heights.{order, ordinary-below, raised, edges-laid}
 use Rattle.graph.proofs.Drawn.{direct-laid}
 

@@ -74,7 +74,7 @@ module _ {n k : ℕ} {l : List ℕ} (w : Table n k l) (a b : ℕ) (h : a < n) wh
   unfolding at
   at-other s i d = getD-set-other l a i s 0 d
 
-  set-table : (s : ℕ) → s < 2 ^ k → Table n k (set l a s)
+  pub set-table : (s : ℕ) → s < 2 ^ k → Table n k (set l a s)
   set-table s x = record {
     whole = length-set l a s ∙ w .whole;
     entry-lt = λ i.

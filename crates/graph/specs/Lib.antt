@@ -5,5 +5,7 @@ pub mod Drawing
 pub mod Closing
 pub mod Editing
 pub mod Refusing
+pub mod Reading
+pub mod Working
 pub mod Invariants
 pub mod Computes

@@ -146,6 +146,10 @@ closed-checks h =
     ∷ refuse-lowest 29 role-count (pair-role h)
     ∷ []
 
+-- What a change comes to before closing, by the fields and the graph at hand.
+unfoldable pub early : Graph → Change → Verdict
+early g c = verdict (input-checks c ++ state-checks g c)
+
 -- The refusals of a change that need no seat, h being the graph after it.
 unfoldable pub change-checks : Graph → Change → Graph → List Check
 change-checks g c h = input-checks c ++ (state-checks g c ++ (still-below h c ++ closed-checks h))
@@ -174,3 +178,10 @@ lift-checks g a b =
     ∷ pair-of-one a b
     ∷ refuse 23 (not (declared (g .conflicts) a b)) a
     ∷ []
+
+-- ---- what a call leaves
+
+-- A call's verdict and the graph after it: a refused call leaves the graph as it was, and one that passed has h.
+unfoldable pub keep : Verdict → Graph → Graph → Verdict × Graph
+keep passed g h = (passed, h)
+keep (refused n p) g h = (refused n p, g)

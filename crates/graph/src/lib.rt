@@ -1,1 +1,62 @@
-// The role graph: numbers of roles and privileges. What a graph is and what each call makes of it stands in specs/.
+// The role graph with its conflicts: drawing, closing, the edits of kinds 1 to 9 and their refusals.
+mod changing;
+pub mod checking;
+mod close;
+pub mod declaring;
+pub mod drawing;
+pub mod editing;
+mod entries;
+pub mod refusing;
+
+// A role's number.
+pub struct Role(pub u8);
+
+// A privilege's number.
+pub struct Privilege(pub u8);
+
+// The ordinary roles present, each role's effective set, and under each privilege the higher ones in conflict with it.
+pub struct Graph {
+    pub roles: u64,
+    pub sets: [u64; 64],
+    pub conflicts: [u64; 64],
+}
+
+// A refusal's number and place, as document 01 lists them.
+pub struct Refusal {
+    pub number: u8,
+    pub place: u8,
+}
+
+// Nothing refuses, or a refusal.
+pub enum Verdict {
+    Passed,
+    Refused(Refusal),
+}
+
+// What a call comes to: its verdict, and the graph after it.
+pub struct Outcome {
+    pub verdict: Verdict,
+    pub graph: Graph,
+}
+
+// A change of the graph, kinds 1 to 7, with the fields that the kind names.
+pub enum Change {
+    // role, direct set, juniors, seniors
+    AddByPlace(Role, u64, u64, u64),
+    // role, effective set
+    AddByPrivileges(Role, u64),
+    // role, and 1 where its direct privileges go to its immediate seniors
+    RemoveRole(Role, u8),
+    Grant(Role, Privilege),
+    Withdraw(Role, Privilege),
+    // junior, senior
+    AddEdge(Role, Role),
+    RemoveEdge(Role, Role),
+}
+
+// What a change comes to before 26 to 30 are judged: its verdict, and the roles and sets after it.
+pub struct Attempt {
+    pub verdict: Verdict,
+    pub roles: u64,
+    pub sets: [u64; 64],
+}

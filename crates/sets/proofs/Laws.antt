@@ -3,19 +3,19 @@
 use mathlib.Core.Path.{_≡_, refl, sym, ap, ap₂, _∙_, subst}
 use mathlib.Core.Bool.{Bool, true, false, not, _&&_, _||_, and-true, and-false, or-false, true≢false, false≢true}
 use mathlib.Core.Logic.{inl, inr}
-use Prim.Native.Nat.{ℕ, zero, suc, _+_, _*_, _/_, _%_, _^_, _<_, min, max, suc-le-suc}
-use native.Mathlib.Nat.{mod-lt, zero-lt-suc, lt-suc-self, lt-of-le-of-lt, lt-trans, pow-suc, div-one, zero-div}
+use Prim.Native.Nat.{ℕ, zero, suc, _+_, _*_, _/_, _%_, _^_, _<_, _≤_, min, max, suc-le-suc}
+use native.Mathlib.Nat.{mod-lt, zero-lt-suc, lt-suc-self, lt-of-le-of-lt, lt-of-lt-of-le, lt-trans, pow-suc, div-one, zero-div}
 use native.Mathlib.Numerals.{one-add}
 use native.Mathlib.Decide.{ℕ-discrete}
 use native.Mathlib.Omega.{arith}
 use lib.Arith.{digits-mod, lt-one}
-use lib.Bits.{bitAnd, bitOr, bitXor, differ, and-step, or-step, xor-step, and-shr, or-shr, xor-shr, and-le-l, and-comm, or-lt, xor-lt}
+use lib.Bits.{bitAnd, bitOr, bitXor, differ, and-step, or-step, xor-step, and-shr, or-shr, xor-shr, and-zero-r, xor-zero-r, and-le-l, and-comm, or-lt, xor-lt}
 use lib.Dec.{T, T-not, not-T, eqb, eqb·zero-suc, eqb·suc-zero, eqb·suc-suc, ltb, ltb→lt, lt→ltb, leb·suc-zero}
-use lib.Pow.{pow-pos, pow-lt, shr-shr}
+use lib.Pow.{pow-pos, pow-mono, pow-lt, shr-shr}
 use Rattle.sets.specs.Counting.{any}
 use Rattle.sets.specs.Sets.{digit, member, single, union, intersection, difference, included, strictly-included, size, when, collect, gather}
 use Rattle.sets.proofs.Tests.{both, join, same-test, passes, fails, decide, so, equal-test, test-equal}
-use Rattle.sets.proofs.Counting.{any-some, some-any, count-lt}
+use Rattle.sets.proofs.Counting.{any-some, some-any, count-lt, count-bound}
 
 -- A digit is 0 or 1.
 pub digit-lt : (n s : ℕ) → digit n s < 2
@@ -178,6 +178,10 @@ pub difference-lt : (w s t : ℕ) → s < 2 ^ w → difference s t < 2 ^ w
 unfolding difference intersection
 difference-lt w s t h = xor-lt w s (bitAnd s t) h (intersection-lt w s t h)
 
+pub difference-empty : (s : ℕ) → difference s 0 ≡ s
+unfolding difference
+difference-empty s = ap (bitXor s) (and-zero-r s) ∙ xor-zero-r s
+
 pub when-lt : (w : ℕ) (c : Bool) (s : ℕ) → s < 2 ^ w → when c s < 2 ^ w
 unfolding when
 when-lt w true s h = h
@@ -224,6 +228,11 @@ lt-pow : (n : ℕ) → n < 2 ^ n
 lt-pow zero = zero-lt-suc 0
 lt-pow (suc n) = omega (arith, pow-suc 2 n, lt-pow n)
 
+-- Two sets with the same members are equal, however large they are.
+pub equal-members : (s t : ℕ) → ((n : ℕ) → member n s ≡ member n t) → s ≡ t
+equal-members s t e =
+    extensional (s + t) s t (lt-of-lt-of-le (lt-pow s) (pow-mono (omega arith))) (lt-of-lt-of-le (lt-pow t) (pow-mono (omega arith))) (λ n _. e n)
+
 pub included-refl : (s : ℕ) → T (included s s)
 included-refl s = member-included s s s (lt-pow s) (λ n l m. m)
 
@@ -251,6 +260,10 @@ strictly-transitive s t u h k =
     let b = strict-parts t u k in
     join (included s u) (not (eqb s u)) (included-trans s t u (a .0) (b .0))
     (not-T (eqb s u) (λ e. a .1 (included-antisym s t (a .0) (subst (λ (x : ℕ). T (included t x)) (sym (test-equal e)) (b .0)))))
+
+pub size-bound : (w s : ℕ) → size w s ≤ w
+unfolding size
+size-bound w s = count-bound w (λ n. member n s)
 
 -- A set that is strictly included in another has fewer members.
 pub size-strict : (w s t : ℕ) → s < 2 ^ w → t < 2 ^ w → T (strictly-included s t) → size w s < size w t

@@ -10,8 +10,8 @@ use lib.Bits.{bitAnd, and-le-l, xor-add-and}
 use lib.Dec.{T, T-not, not-T, eqb, eqb-refl, ltb, lt→ltb}
 use Rattle.sets.specs.Counting.{any, lowest}
 use Rattle.sets.specs.Sets.{member, single, union, intersection, difference, when, collect, gather, lowest-member, without-lowest}
-use Rattle.sets.proofs.Tests.{both, join, either, or-left, or-right, decide, passes, fails, test-equal}
-use Rattle.sets.proofs.Counting.{any-some, some-any, lowest-passes, lowest-lt, lowest-first, lowest-is, lowest-none}
+use Rattle.sets.proofs.Tests.{both, join, either, or-left, or-right, same-test, decide, passes, fails, so, equal-test, test-equal}
+use Rattle.sets.proofs.Counting.{any-some, some-any, any-cong, lowest-passes, lowest-lt, lowest-first, lowest-is, lowest-none}
 use Rattle.sets.proofs.Laws.{member-empty, member-union, member-difference, member-single, member-when, member-collect, member-lt, extensional, collect-lt, gather-lt, intersection-lt, difference-lt}
 use Rattle.sets.proofs.Members.{no-members, in-empty, in-union, union-left, union-right, in-intersection, intersection-in, single-in, in-gather, gather-in, same-members}
 

@@ -140,3 +140,17 @@ pub fn lowest_member(s: u64) -> u32
 {
     u64::trailing_zeros(s)
 }
+
+// The set without its lowest member; of the empty set the empty set.
+pub fn without_lowest(s: u64) -> u64
+    ensures { λ r. ⌜ r ≡ spec.without-lowest 64 s ⌝ }
+{
+    if s == 0 { 0 } else { s & (s - 1) }
+}
+
+// s where the test passes, and the empty set where it does not.
+pub fn when(c: bool, s: u64) -> u64
+    ensures { λ r. ⌜ r ≡ spec.when c s ⌝ }
+{
+    if c { s } else { 0 }
+}

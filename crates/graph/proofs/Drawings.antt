@@ -1,0 +1,312 @@
+-- What the drawing code computes is what the definitions say: the order by a few tests, the roles below and above, the drawn edges and the direct sets.
+-- Assumes nothing.
+use mathlib.Core.Path.{_≡_, refl, sym, ap, ap₂, _∙_, subst}
+use mathlib.Core.Bool.{Bool, true, false, cond, not, _&&_, _||_, and-true, or-true, or-false, and-comm}
+use mathlib.Core.Logic.{_≢_, _⊎_, inl, inr}
+use mathlib.Core.List.{List}
+use Prim.Native.Nat.{ℕ, _<_, _^_}
+use native.Mathlib.Omega.{arith}
+use lib.Dec.{T, T-not, not-T, eqb, ltb, lt→ltb}
+use Rattle.sets.specs.Counting.{any, count, sum}
+use Rattle.sets.specs.Sets.{digit, member, single, union, difference, strictly-included, size, when, collect, gather}
+use Rattle.sets.proofs.Tests.{both, join, either, or-left, or-right, same-test, passes, fails, equal-test, test-equal}
+use Rattle.sets.proofs.Counting.{any-some, some-any, any-cong, count-cong, sum-cong}
+use Rattle.sets.proofs.Laws.{binary, member-lt, member-single, member-union, member-difference, member-collect, member-gather, member-empty, equal-members, extensional, difference-empty, difference-lt, collect-lt, gather-cong}
+use Rattle.sets.proofs.Members.{in-empty, in-collect, collect-in, no-members}
+use Rattle.order.specs.Paths.{drawn}
+use Rattle.graph.specs.Tables.{at, table}
+use Rattle.graph.specs.Graph.{Graph, role-count, min-role, max-role, is-end, ordinary, present, effective}
+use Rattle.graph.specs.Drawing.{below, edge, juniors, seniors, edge-count, direct, roles-below, roles-above, direct-table}
+use Rattle.graph.proofs.Tables.{length-table, at-table, table-ext}
+use Rattle.graph.proofs.Order.{Under, from-min, to-max, inside, is-end-lt, lt-is-end, ordinary-parts, present-cases, ordinary-present, end-present, ordinary-lt, present-lt, below-cases, below-join}
+
+-- ---- the order by a few tests
+-- The set 3 has the numbers of the end roles.
+member-ends : (n : ℕ) → member n 3 ≡ is-end n
+unfolding member digit
+member-ends n =
+    same-test (member n 3) (is-end n) (λ m. lt-is-end n (member-lt 2 n 3 (omega arith) m))
+    (λ t. binary (λ i. T (member i 3)) tt tt n (is-end-lt n t))
+
+pub ordinary-member : (g : Graph) (n : ℕ) → member n (difference (g .roles) 3) ≡ ordinary g n
+unfolding ordinary
+ordinary-member g n =
+    member-difference n (g .roles) 3 ∙ ap (λ (b : Bool). member n (g .roles) && not b) (member-ends n) ∙ and-comm (member n (g .roles)) (not (is-end n))
+
+-- The ordinary roles with the end role z.
+pub member-with : (g : Graph) (z n : ℕ) → member n (union (difference (g .roles) 3) (single z)) ≡ ordinary g n || eqb n z
+member-with g z n = member-union n (difference (g .roles) 3) (single z) ∙ ap₂ _||_ (ordinary-member g n) (member-single n z)
+
+-- What a test of the code for an ordinary role says.
+module _ (g : Graph) (n : ℕ) {all : ℕ} {b : Bool} (t : b ≡ member n all) (e : all ≡ difference (g .roles) 3) where
+  pub found-ordinary : b ≡ true → T (ordinary g n)
+  found-ordinary y = subst T (sym y ∙ t ∙ ap (member n) e ∙ ordinary-member g n) tt
+
+  pub not-ordinary : b ≡ false → T (ordinary g n) → ⊥
+  not-ordinary y = subst (λ (v : Bool). T v → ⊥) (sym y ∙ t ∙ ap (member n) e ∙ ordinary-member g n) (λ x. x)
+
+-- An ordinary role, or the end role e.
+ordinary-or : (g : Graph) (r e : ℕ) → T (ordinary g r || eqb r e) → T (ordinary g r) ⊎ (r ≡ e)
+ordinary-or g r e t = elim (either (ordinary g r) (eqb r e) t) [ inl o ↦ inl o | inr x ↦ inr (test-equal x) ]
+
+not-end : (g : Graph) (r e : ℕ) → e < 2 → T (ordinary g r) → T (eqb r e) → ⊥
+not-end g r e l o t = let d : r ≡ e = test-equal t in omega (arith, ordinary-parts g r o .0)
+
+-- A role above some role is ordinary or MaxRole, and one below some role is ordinary or MinRole; two such roles are ordered by one of three tests.
+pub below-tests : (g : Graph) (r s : ℕ)
+    → below g r s ≡ (ordinary g s || eqb s max-role) && ((ordinary g r || eqb r min-role) && (eqb s max-role || (eqb r min-role || strictly-included (effective g r) (effective g s))))
+below-tests g r s =
+    same-test (below g r s) (high && (low && ways)) (λ t. let (p, q, u) = below-cases g r s t in there p q u)
+    (λ t.
+    let (x, v) = both high (low && ways) t in
+    let (y, z) = both low ways v in
+    back (ordinary-or g s max-role x) (ordinary-or g r min-role y) z)
+  where
+    strict : Bool
+    strict = strictly-included (effective g r) (effective g s)
+
+    high : Bool
+    high = ordinary g s || eqb s max-role
+
+    low : Bool
+    low = ordinary g r || eqb r min-role
+
+    ways : Bool
+    ways = eqb s max-role || (eqb r min-role || strict)
+
+    all : T high → T low → T ways → T (high && (low && ways))
+    all x y z = join high (low && ways) x (join low ways y z)
+
+    top : s ≡ max-role → T high
+    top e = or-right (ordinary g s) (eqb s max-role) (equal-test e)
+
+    bottom : r ≡ min-role → T low
+    bottom e = or-right (ordinary g r) (eqb r min-role) (equal-test e)
+
+    there : T (present g r) → T (present g s) → Under g r s → T (high && (low && ways))
+    there p q (from-min e d) =
+        all (elim (present-cases g s q) [ inl l ↦ top (omega (arith, d)) | inr o ↦ or-left (ordinary g s) (eqb s max-role) o ]) (bottom e)
+        (or-right (eqb s max-role) (eqb r min-role || strict) (or-left (eqb r min-role) strict (equal-test e)))
+    there p q (to-max e d) =
+        all (top e) (elim (present-cases g r p) [ inl l ↦ bottom (omega (arith, d)) | inr o ↦ or-left (ordinary g r) (eqb r min-role) o ])
+        (or-left (eqb s max-role) (eqb r min-role || strict) (equal-test e))
+    there p q (inside a b i) =
+        all (or-left (ordinary g s) (eqb s max-role) b) (or-left (ordinary g r) (eqb r min-role) a)
+        (or-right (eqb s max-role) (eqb r min-role || strict) (or-right (eqb r min-role) strict i))
+
+    back : T (ordinary g s) ⊎ (s ≡ max-role) → T (ordinary g r) ⊎ (r ≡ min-role) → T ways → T (below g r s)
+    back (inr e) (inr d) z = below-join g r s (end-present g r (omega arith)) (end-present g s (omega arith)) (from-min d (omega arith))
+    back (inr e) (inl a) z = below-join g r s (ordinary-present g r a) (end-present g s (omega arith)) (to-max e (omega (arith, ordinary-parts g r a .0)))
+    back (inl b) (inr d) z = below-join g r s (end-present g r (omega arith)) (ordinary-present g s b) (from-min d (omega (arith, ordinary-parts g s b .0)))
+    back (inl b) (inl a) z =
+        below-join g r s (ordinary-present g r a) (ordinary-present g s b)
+        (inside a b
+        (elim (either (eqb s max-role) (eqb r min-role || strict) z) [
+          | inl x ↦ (let e : s ≡ max-role = test-equal x in absurd (omega (arith, ordinary-parts g s b .0)))
+          | inr w ↦
+              elim (either (eqb r min-role) strict w) [
+                | inl x ↦ (let e : r ≡ min-role = test-equal x in absurd (omega (arith, ordinary-parts g r a .0)))
+                | inr i ↦ i
+              ]
+        ]))
+
+-- The three tests as the code makes them.
+pub below-code : (g : Graph) (r s : ℕ) {high low strict : Bool}
+    → high ≡ member s (union (difference (g .roles) 3) 2) → low ≡ member r (union (difference (g .roles) 3) 1) → strict ≡ strictly-included (effective g r) (effective g s)
+    → high && (low && (eqb s max-role || (eqb r min-role || strict))) ≡ below g r s
+unfolding single
+below-code g r s a b c = rw (a ∙ member-with g max-role s, b ∙ member-with g min-role r, c, below-tests)
+
+-- ---- the roles below
+-- A test that passes only where another does needs no other.
+needless : (a b : Bool) → (T b → T a) → a && b ≡ b
+needless a b f = same-test (a && b) b (λ t. both a b t .1) (λ t. join a b (f t) t)
+
+collected : (i n : ℕ) (f : ℕ → Bool) → i < n → member i (collect n f) ≡ f i
+collected i n f l = member-collect i n f ∙ ap (λ (b : Bool). b && f i) (passes (ltb i n) (lt→ltb i n l))
+
+bounded : (i n : ℕ) (b : Bool) → (T b → i < n) → ltb i n && b ≡ b
+bounded i n b f = needless (ltb i n) b (λ t. lt→ltb i n (f t))
+
+module _ (g : Graph) (h : g .roles < 2 ^ role-count) where
+  pub below-member : (r s : ℕ) → member r (roles-below g s) ≡ below g r s
+  below-member r s = member-collect r role-count (λ r. below g r s) ∙ bounded r role-count (below g r s) (λ t. present-lt g r h (below-cases g r s t .0))
+
+  pub below-top : union (difference (g .roles) 3) 1 ≡ roles-below g max-role
+  unfolding single
+  below-top = equal-members _ _ (λ n. member-with g min-role n ∙ sym (below-member n max-role ∙ below-tests g n max-role ∙ rw (or-true, and-true)))
+
+  pub below-ordinary : (s : ℕ) → T (ordinary g s)
+      → union (collect role-count (λ r. member r (difference (g .roles) 3) && strictly-included (effective g r) (effective g s))) 1 ≡ roles-below g s
+  unfolding single
+  below-ordinary s o =
+      equal-members _ _
+      (λ n.
+      member-union n (collect role-count within) (single min-role)
+      ∙ ap₂ _||_ (within-member n) (member-single n min-role)
+      ∙ absorb (ordinary g n) (eqb n min-role) (strict n)
+      ∙ sym (below-member n s ∙ below-tests g n s ∙ rw (passes (ordinary g s) o, fails (eqb s max-role) (not-end g s max-role (omega arith) o))))
+    where
+      strict : ℕ → Bool
+      strict r = strictly-included (effective g r) (effective g s)
+
+      within : ℕ → Bool
+      within r = member r (difference (g .roles) 3) && strict r
+
+      within-member : (n : ℕ) → member n (collect role-count within) ≡ ordinary g n && strict n
+      within-member n =
+          member-collect n role-count within
+          ∙ rw ordinary-member (bounded n role-count (ordinary g n && strict n) (λ t. ordinary-lt g n h (both (ordinary g n) (strict n) t .0)))
+
+      absorb : (o e t : Bool) → (o && t) || e ≡ (o || e) && (e || t)
+      absorb true true true = refl
+      absorb true true false = refl
+      absorb true false t = or-false t
+      absorb false true t = refl
+      absorb false false t = refl
+
+  pub below-none : (s : ℕ) → s ≢ max-role → (T (ordinary g s) → ⊥) → 0 ≡ roles-below g s
+  below-none s d f =
+      equal-members 0 _
+      (λ n.
+      member-empty n ∙ sym (below-member n s ∙ below-tests g n s ∙ rw (fails (ordinary g s) f, fails (eqb s max-role) (λ t. d (test-equal t)))))
+
+-- Only a role among the ordinary ones and MaxRole lies above another.
+pub above-seniors : (g : Graph) (r : ℕ) → collect role-count (λ s. member s (union (difference (g .roles) 3) 2) && below g r s) ≡ roles-above g r
+unfolding single
+above-seniors g r =
+    extensional role-count _ _ (collect-lt role-count _) (collect-lt role-count _)
+    (λ s l.
+    collected s role-count (λ s. member s (union (difference (g .roles) 3) 2) && below g r s) l
+    ∙ ap (λ (b : Bool). b && below g r s) (member-with g max-role s)
+    ∙ needless (ordinary g s || eqb s max-role) (below g r s) (λ t. both (ordinary g s || eqb s max-role) _ (subst T (below-tests g r s) t) .0)
+    ∙ sym (collected s role-count (λ s. below g r s) l))
+
+-- ---- the drawn edges
+-- What passes p without what q reaches from it: what passes p with nothing between.
+picked : (n : ℕ) (p : ℕ → Bool) (q : ℕ → ℕ → Bool) (d : ℕ → Bool) → ((i : ℕ) → p i && not (any n (λ t. p t && q t i)) ≡ d i)
+    → difference (collect n p) (gather n (λ t. member t (collect n p)) (λ t. collect n (q t))) ≡ collect n d
+picked n p q d e =
+    extensional n _ _ (difference-lt n _ _ (collect-lt n p)) (collect-lt n d)
+    (λ i l.
+    member-difference i (collect n p) (gather n (λ t. member t (collect n p)) (λ t. collect n (q t)))
+    ∙ ap₂ (λ (a b : Bool). a && not b) (collected i n p l)
+    (member-gather i n (λ t. member t (collect n p)) (λ t. collect n (q t))
+    ∙ any-cong n (λ t. member t (collect n p) && member i (collect n (q t))) (λ t. p t && q t i) (λ t k. ap₂ _&&_ (collected t n p k) (collected i n (q t) l)))
+    ∙ e i
+    ∙ sym (collected i n d l))
+
+-- The immediate juniors are the roles below that lie below none of these.
+pub juniors-picked : (g : Graph) (s : ℕ) → difference (roles-below g s) (gather role-count (λ t. member t (roles-below g s)) (roles-below g)) ≡ juniors g s
+unfolding juniors edge drawn
+juniors-picked g s =
+    picked role-count (λ r. below g r s) (λ t r. below g r t) (λ r. edge g r s)
+    (λ r. ap (λ (b : Bool). below g r s && not b) (any-cong role-count _ _ (λ t _. and-comm (below g t s) (below g r t))))
+
+-- The immediate seniors are the roles above that lie above none of these.
+pub seniors-picked : (g : Graph) (r : ℕ) → difference (roles-above g r) (gather role-count (λ t. member t (roles-above g r)) (roles-above g)) ≡ seniors g r
+unfolding seniors edge drawn
+seniors-picked g r = picked role-count (λ s. below g r s) (λ t s. below g t s) (λ s. edge g r s) (λ s. refl)
+
+-- The direct privileges are the effective ones that no immediate junior has.
+pub direct-picked : (g : Graph) (s : ℕ) → difference (at (g .sets) s) (gather role-count (λ r. member r (juniors g s)) (at (g .sets))) ≡ direct g s
+unfolding direct effective juniors
+direct-picked g s =
+    ap (difference (at (g .sets) s))
+    (gather-cong role-count (λ r. member r (juniors g s)) (λ r. edge g r s) (at (g .sets)) (effective g) (λ r l. collected r role-count (λ r. edge g r s) l) (λ r _ _. refl))
+
+gather-empty : (f : ℕ → ℕ) → gather role-count (λ r. member r 0) f ≡ 0
+unfolding gather when union member digit
+gather-empty f = refl
+
+none-collected : (n : ℕ) (f : ℕ → Bool) → eqb (collect n f) 0 ≡ not (any n f)
+none-collected n f =
+    same-test (eqb (collect n f) 0) (not (any n f))
+    (λ t.
+    not-T (any n f)
+    (λ some.
+    let (i, l, x) = any-some n f some in
+    in-empty i (subst (λ (s : ℕ). T (member i s)) (test-equal t) (collect-in i n f l x))))
+    (λ t. equal-test (no-members n (collect n f) (collect-lt n f) (λ i m. let (l, x) = in-collect i n f m in T-not (any n f) t (some-any n f i l x))))
+
+-- An edge is drawn from a role below s where none of the roles below s lies above it.
+pub edge-tests : (g : Graph) → g .roles < 2 ^ role-count → (r s : ℕ)
+    → member r (roles-below g s) && eqb (collect role-count (λ t. member t (roles-below g s) && below g r t)) 0 ≡ edge g r s
+unfolding edge drawn
+edge-tests g h r s =
+    ap₂ _&&_ (below-member g h r s)
+    (none-collected role-count (λ t. member t (roles-below g s) && below g r t)
+    ∙ ap not (any-cong role-count _ (λ t. below g r t && below g t s) (λ t _. ap (λ (b : Bool). b && below g r t) (below-member g h t s) ∙ and-comm (below g t s) (below g r t))))
+
+-- ---- the tables
+pub table-cong : (n : ℕ) (f h : ℕ → ℕ) → ((i : ℕ) → i < n → f i ≡ h i) → table n f ≡ table n h
+table-cong n f h e =
+    table-ext n (table n f) (table n h) (length-table n f) (length-table n h) (λ i l. at-table n i f l ∙ e i l ∙ sym (at-table n i h l))
+
+-- A choice has the value that both its sides have where they are chosen.
+chosen : (c : Bool) (x y z : ℕ) → (T c → x ≡ z) → ((T c → ⊥) → y ≡ z) → cond c x y ≡ z
+chosen true x y z p q = p tt
+chosen false x y z p q = q (λ t. t)
+
+-- A set that has every ordinary role and MaxRole.
+abbrev pub Covers : Graph → ℕ → Type 0
+Covers g all = (s : ℕ) → T (ordinary g s) ⊎ (s ≡ max-role) → T (member s all)
+
+pub seniors-cover : (g : Graph) → Covers g (union (difference (g .roles) 3) 2)
+unfolding single
+seniors-cover g s (inl o) = subst T (sym (member-with g max-role s)) (or-left (ordinary g s) (eqb s max-role) o)
+seniors-cover g s (inr e) = subst T (sym (member-with g max-role s)) (or-right (ordinary g s) (eqb s max-role) (equal-test e))
+
+module _ (g : Graph) (h : g .roles < 2 ^ role-count) (all : ℕ) (c : Covers g all) where
+  outside : (s : ℕ) → (T (member s all) → ⊥) → roles-below g s ≡ 0
+  outside s f = sym (below-none g h s (λ e. f (c s (inr e))) (λ o. f (c s (inl o))))
+
+  -- Outside a set that covers there is no junior.
+  no-juniors : (s : ℕ) → (T (member s all) → ⊥) → juniors g s ≡ 0
+  unfolding difference
+  no-juniors s f = sym (juniors-picked g s) ∙ rw (outside s f)
+
+  pub lowers-table : table role-count (λ s. cond (member s all) (roles-below g s) 0) ≡ table role-count (roles-below g)
+  lowers-table = table-cong role-count _ _ (λ s _. chosen (member s all) (roles-below g s) 0 (roles-below g s) (λ _. refl) (λ f. sym (outside s f)))
+
+  -- Taking from the roles below each role those below these leaves the immediate juniors.
+  pub juniors-table : direct-table all (table role-count (roles-below g)) (table role-count (roles-below g)) ≡ table role-count (juniors g)
+  unfolding direct-table
+  juniors-table = table-cong role-count _ (juniors g) (λ s l. chosen (member s all) _ _ (juniors g s) (λ _. taken s l) (λ f. at-table role-count s (roles-below g) l ∙ outside s f ∙ sym (no-juniors s f)))
+    where
+      lower : List ℕ
+      lower = table role-count (roles-below g)
+
+      taken : (s : ℕ) → s < role-count → difference (at lower s) (gather role-count (λ t. member t (at lower s)) (at lower)) ≡ juniors g s
+      taken s l =
+          ap₂ difference (at-table role-count s (roles-below g) l)
+          (gather-cong role-count (λ t. member t (at lower s)) (λ t. member t (roles-below g s)) (at lower) (roles-below g)
+          (λ t _. ap (member t) (at-table role-count s (roles-below g) l)) (λ t k _. at-table role-count t (roles-below g) k))
+          ∙ juniors-picked g s
+
+  -- Taking from each role's set what its immediate juniors have leaves its direct privileges.
+  pub directs-table : direct-table all (g .sets) (table role-count (juniors g)) ≡ table role-count (direct g)
+  unfolding direct-table
+  directs-table = table-cong role-count _ (direct g) (λ s l. chosen (member s all) _ _ (direct g s) (λ _. ap (less s) (at-table role-count s (juniors g) l) ∙ direct-picked g s) (kept s))
+    where
+      less : ℕ → ℕ → ℕ
+      less s below = difference (at (g .sets) s) (gather role-count (λ r. member r below) (at (g .sets)))
+
+      kept : (s : ℕ) → (T (member s all) → ⊥) → at (g .sets) s ≡ direct g s
+      kept s f =
+          sym (difference-empty (at (g .sets) s))
+          ∙ ap (difference (at (g .sets) s)) (sym (gather-empty (at (g .sets))))
+          ∙ ap (less s) (sym (no-juniors s f))
+          ∙ direct-picked g s
+
+  -- The immediate juniors of all roles are as many as the edges.
+  pub edges-counted : sum role-count (λ s. cond (member s all) (size role-count (at (table role-count (juniors g)) s)) 0) ≡ edge-count g
+  unfolding edge-count juniors size count member digit
+  edges-counted =
+      sum-cong role-count _ _
+      (λ s l.
+      chosen (member s all) _ 0 _ (λ _. ap (size role-count) (at-table role-count s (juniors g) l) ∙ counted s)
+      (λ f. sym (ap (size role-count) (no-juniors s f)) ∙ counted s))
+    where
+      counted : (s : ℕ) → size role-count (juniors g s) ≡ count role-count (λ r. edge g r s)
+      counted s = count-cong role-count _ (λ r. edge g r s) (λ r l. collected r role-count (λ r. edge g r s) l)

@@ -1,0 +1,290 @@
+-- What the loops of `refusing` keep while they visit the members of a set, lowest first, and what they find.
+-- Assumes nothing.
+use mathlib.Core.Path.{_≡_, sym, ap, ap₂, _∙_, subst}
+use mathlib.Core.Bool.{Bool, true, false, not, _&&_, _||_, and-comm, or-comm}
+use mathlib.Core.Logic.{_≢_, inl, inr}
+use mathlib.Core.List.{List}
+use Prim.Native.Nat.{ℕ, _<_, _≤_, _^_}
+use native.Mathlib.Decide.{decLt}
+use native.Mathlib.Omega.{arith}
+use borrow.Author.Tests.{lt-ltb, le-ltb, eq-eqb, ne-eqb}
+use lib.Dec.{T, T-not, not-T, eqb, ltb, ltb→lt, lt→ltb, lit<}
+use lib.Pow.{pow-pos}
+use Rattle.sets.specs.Counting.{any, lowest}
+use Rattle.sets.specs.Sets.{digit, member, single, union, intersection, difference, when, collect, lowest-member, without-lowest}
+use Rattle.sets.proofs.Tests.{both, join, either, same-test, passes, fails, decide, so, equal-test, test-equal, and-regroup}
+use Rattle.sets.proofs.Counting.{any-some, some-any, any-cong, lowest-lt, lowest-none, lowest-cong}
+use Rattle.sets.proofs.Laws.{binary, member-lt, union-lt, when-lt, single-lt, collect-lt, member-union, member-collect, member-when, member-single, intersection-lt}
+use Rattle.sets.proofs.Members.{in-intersection, intersection-in, in-empty, no-members}
+use Rattle.sets.proofs.Walks.{Searched, search-none, search-next, search-found, search-done, visited, visited-none, visited-next, member-next, lowest-in, lowest-of}
+use Rattle.sets.proofs.Walks as Walks
+use Rattle.graph.specs.Tables.{at}
+use Rattle.graph.specs.Graph.{Graph, role-count, is-end, ordinary, effective}
+use Rattle.graph.specs.Conflicts.{conflict}
+use Rattle.graph.specs.Drawing.{below}
+use Rattle.graph.specs.Refusing.{at-or-below}
+use Rattle.graph.proofs.Order.{is-end-lt, lt-is-end}
+use Rattle.graph.proofs.Drawings.{ordinary-member}
+use Rattle.graph.proofs.Loops.{Left, left-all, left-lowest, left-falls}
+
+-- The lowest number that passes is below k where some number below k passes.
+pub found-test : (k : ℕ) (f : ℕ → Bool) → ltb (lowest k f) k ≡ any k f
+found-test k f = same-test (ltb (lowest k f) k) (any k f) there (λ t. lt→ltb (lowest k f) k (lowest-lt k f t))
+  where
+    there : T (ltb (lowest k f) k) → T (any k f)
+    there t =
+        elim (decide (any k f)) [
+          | inl s ↦ s
+          | inr d ↦ absurd (let l = ltb→lt (lowest k f) k t in let e = lowest-none k f d in omega arith)
+        ]
+
+-- The lowest member of a set is a role's number, or 64.
+pub lowest-bound : (s : ℕ) → lowest-member role-count s ≤ role-count
+unfolding lowest-member
+lowest-bound s =
+    elim (decide (any role-count (λ n. member n s))) [
+      | inl t ↦ (let l = lowest-lt role-count (λ n. member n s) t in omega arith)
+      | inr d ↦ (let e = lowest-none role-count (λ n. member n s) d in omega arith)
+    ]
+
+-- ---- two sets
+-- Some role or privilege is in both sets.
+abbrev has-common : ℕ → ℕ → Bool
+has-common s t = any role-count (λ n. member n s && member n t)
+
+common-test : (s t : ℕ) → s < 2 ^ role-count → has-common s t ≡ not (eqb (intersection s t) 0)
+common-test s t h = same-test (has-common s t) (not (eqb (intersection s t) 0)) there back
+  where
+    there : T (has-common s t) → T (not (eqb (intersection s t) 0))
+    there c =
+        let (n, l, x) = any-some role-count (λ n. member n s && member n t) c in
+        let (a, b) = both (member n s) (member n t) x in
+        not-T (eqb (intersection s t) 0) (λ z. in-empty n (subst (λ (i : ℕ). T (member n i)) (test-equal z) (intersection-in n s t a b)))
+
+    back : T (not (eqb (intersection s t) 0)) → T (has-common s t)
+    back d =
+        so (has-common s t)
+        (λ u.
+        T-not (eqb (intersection s t) 0) d
+        (equal-test (no-members role-count (intersection s t) (intersection-lt role-count s t h)
+        (λ n m.
+        let (a, b) = in-intersection n s t m in
+        T-not (has-common s t) u (some-any role-count (λ n. member n s && member n t) n (member-lt role-count n s h a) (join (member n s) (member n t) a b))))))
+
+-- ---- a search
+-- A search among `all` has `rest` left: what was visited lies below it, and none of that passes.
+pub record Search (f : ℕ → Bool) (all rest : ℕ) : Type 0 where
+  pub left : Left all rest
+  pub searched : Searched f all rest
+  pub above : (n m : ℕ) → T (visited all rest n) → T (member m rest) → n < m
+
+pub starts : (f : ℕ → Bool) (all : ℕ) → all < 2 ^ role-count → Search f all all
+starts f all h = record { left = left-all all h; searched = search-none f all; above = λ n m v. absurd (visited-none all n v) }
+
+-- The lowest member left, r, is visited.
+module _ {f : ℕ → Bool} {all rest : ℕ} (s : Search f all rest) (some : rest ≢ 0) {r : ℕ} (e : r ≡ lowest-member role-count rest) where
+  pub visit-lt : r < role-count
+  visit-lt = left-lowest (s .left) some e
+
+  visit-rest : T (member r rest)
+  visit-rest = rw e (lowest-in role-count rest (s .left .fits) some)
+
+  visit-in : T (member r all)
+  visit-in = s .left .within r visit-rest
+
+  -- It passes, and is the lowest that does.
+  pub hit : f r ≡ true → r ≡ lowest role-count (λ n. member n all && f n)
+  hit t = e ∙ sym (search-found f role-count all rest (s .left .fits) some (s .left .within) (s .searched) (ap f (sym e) ∙ t))
+
+  pub any-hit : f r ≡ true → true ≡ any role-count (λ n. member n all && f n)
+  any-hit t =
+      sym (passes (any role-count (λ n. member n all && f n)) (some-any role-count (λ n. member n all && f n) r visit-lt (join (member r all) (f r) visit-in (rw t tt))))
+
+  -- What is left after it.
+  module _ {next : ℕ} (d : next ≡ without-lowest role-count rest) where
+    next-test : (n : ℕ) → member n next ≡ member n rest && not (eqb n r)
+    next-test n = rw (d, e) (member-next role-count rest n)
+
+    next-lt : next < 2 ^ role-count
+    next-lt = rw d (Walks.next-lt role-count rest (s .left .fits))
+
+    pub falls : next < rest
+    falls = left-falls (s .left) some d
+
+    next-inside : (n : ℕ) → T (member n next) → T (member n all)
+    next-inside n m = s .left .within n (both (member n rest) (not (eqb n r)) (subst T (next-test n) m) .0)
+
+    next-above : (n : ℕ) → T (member n next) → r < n
+    next-above n m =
+        let (a, b) = both (member n rest) (not (eqb n r)) (subst T (next-test n) m) in
+        elim (decLt r n) [
+          | yes l ↦ l
+          | no u ↦
+              elim (decLt n r) [
+                | yes l ↦ absurd (lowest-of role-count rest n (omega arith) a)
+                | no v ↦ (let q : n ≡ r = omega arith in absurd (T-not (eqb n r) b (equal-test q)))
+              ]
+        ]
+
+    -- Another member is left after it, or was visited before.
+    next-or-visited : (n : ℕ) → T (member n all) → n ≢ r → (T (member n next) → ⊥) → T (visited all rest n)
+    unfolding visited
+    next-or-visited n a u v =
+        join (member n all) (not (member n rest)) a
+        (not-T (member n rest) (λ m. v (subst T (sym (next-test n)) (join (member n rest) (not (eqb n r)) m (not-T (eqb n r) (λ t. u (test-equal t)))))))
+
+    next-visited : (n : ℕ) → visited all next n ≡ visited all rest n || eqb n r
+    next-visited n = rw (d, e) (visited-next role-count all rest (s .left .fits) some (s .left .within) n)
+
+    -- What is left after it are the members above it.
+    next-higher : (n : ℕ) → member n next ≡ member n all && ltb r n
+    next-higher n = same-test (member n next) (member n all && ltb r n) there back
+      where
+        there : T (member n next) → T (member n all && ltb r n)
+        there m = join (member n all) (ltb r n) (next-inside n m) (lt→ltb r n (next-above n m))
+
+        back : T (member n all && ltb r n) → T (member n next)
+        back t =
+            let (a, b) = both (member n all) (ltb r n) t in
+            let l = ltb→lt r n b in
+            elim (decide (member n next)) [
+              | inl m ↦ m
+              | inr u ↦ absurd (let h = s .above n r (next-or-visited n a (λ q. omega arith) u) visit-rest in omega arith)
+            ]
+
+    -- It does not pass, and the search goes on.
+    pub goes-on : f r ≡ false → Search f all next
+    goes-on t = record {
+      left = record { small = s .left .small; fits = next-lt; within = next-inside };
+      searched = rw d (search-next f role-count all rest (s .left .fits) some (s .left .within) (s .searched) (ap f (sym e) ∙ t));
+      above = λ n m v x.
+          elim (either (visited all rest n) (eqb n r) (subst T (next-visited n) v)) [
+            | inl w ↦ s .above n m w (both (member m rest) (not (eqb m r)) (subst T (next-test m) x) .0)
+            | inr w ↦ (let q : n ≡ r = test-equal w in let l = next-above m x in omega arith)
+          ];
+    }
+
+-- Nothing is left, and nothing passes.
+module _ {f : ℕ → Bool} {all rest : ℕ} (s : Search f all rest) (z : rest ≡ 0) where
+  pub miss : role-count ≡ lowest role-count (λ n. member n all && f n)
+  miss = sym (search-done f role-count all (subst (λ (i : ℕ). Searched f all i) z (s .searched)))
+
+  pub any-miss : false ≡ any role-count (λ n. member n all && f n)
+  any-miss =
+      sym
+      (fails (any role-count (λ n. member n all && f n))
+      (λ t. let l = lowest-lt role-count (λ n. member n all && f n) t in let e = miss in omega arith))
+
+-- ---- ordinary roles
+-- The end roles are the members of 3.
+pub member-ends : (n : ℕ) → member n 3 ≡ is-end n
+unfolding member digit
+member-ends n = same-test (member n 3) (is-end n) (λ m. lt-is-end n (member-lt 2 n 3 (lit< tt) m)) (λ e. binary (λ n. T (member n 3)) tt tt n (is-end-lt n e))
+
+-- A search among the ordinary roles.
+pub among-ordinary : (g : Graph) (f : ℕ → Bool) → lowest role-count (λ n. member n (difference (g .roles) 3) && f n) ≡ lowest role-count (λ n. ordinary g n && f n)
+among-ordinary g f =
+    lowest-cong role-count (λ n. member n (difference (g .roles) 3) && f n) (λ n. ordinary g n && f n)
+    (λ n _. ap (λ (b : Bool). b && f n) (ordinary-member g n))
+
+-- ---- twins
+-- Another ordinary role has the same set as r.
+abbrev pub has-twin : Graph → ℕ → Bool
+has-twin g r = any role-count (λ s. (ordinary g s && not (eqb r s)) && eqb (effective g r) (effective g s))
+
+-- A role among these has the same set as r.
+abbrev has-equal : Graph → ℕ → ℕ → Bool
+has-equal g among r = any role-count (λ n. member n among && eqb (effective g n) (effective g r))
+
+module _ (g : Graph) where
+  twin : (r s : ℕ) → s < role-count → T (ordinary g s) → r ≢ s → effective g r ≡ effective g s → T (has-twin g r)
+  twin r s l o d e =
+      some-any role-count (λ s. (ordinary g s && not (eqb r s)) && eqb (effective g r) (effective g s)) s l
+      (join (ordinary g s && not (eqb r s)) (eqb (effective g r) (effective g s)) (join (ordinary g s) (not (eqb r s)) o (not-T (eqb r s) (λ t. d (test-equal t)))) (equal-test e))
+
+  -- Where no role before r has a twin, r has one only among those left after it.
+  module _ {rest : ℕ} (s : Search (has-twin g) (difference (g .roles) 3) rest) (some : rest ≢ 0) {r : ℕ} (e : r ≡ lowest-member role-count rest)
+      {next : ℕ} (d : next ≡ without-lowest role-count rest) where
+    ordinary-in : (n : ℕ) → T (member n (difference (g .roles) 3)) → T (ordinary g n)
+    ordinary-in n m = subst T (ordinary-member g n) m
+
+    pub twin-test : has-equal g next r ≡ has-twin g r
+    twin-test = same-test (has-equal g next r) (has-twin g r) there back
+      where
+        there : T (has-equal g next r) → T (has-twin g r)
+        there t =
+            let (n, l, x) = any-some role-count (λ n. member n next && eqb (effective g n) (effective g r)) t in
+            let (m, q) = both (member n next) (eqb (effective g n) (effective g r)) x in
+            let k = next-above s some e d n m in
+            twin r n l (ordinary-in n (next-inside s some e d n m)) (λ q. omega arith) (sym (test-equal q))
+
+        back : T (has-twin g r) → T (has-equal g next r)
+        back t =
+            let (n, l, x) = any-some role-count (λ s. (ordinary g s && not (eqb r s)) && eqb (effective g r) (effective g s)) t in
+            let (y, q) = both (ordinary g n && not (eqb r n)) (eqb (effective g r) (effective g n)) x in
+            let (o, u) = both (ordinary g n) (not (eqb r n)) y in
+            let differ : n ≢ r = λ q. T-not (eqb r n) u (equal-test (sym q)) in
+            let same : effective g n ≡ effective g r = sym (test-equal q) in
+            elim (decide (member n next)) [
+              | inl m ↦ some-any role-count (λ n. member n next && eqb (effective g n) (effective g r)) n l (join (member n next) (eqb (effective g n) (effective g r)) m (equal-test same))
+              | inr v ↦
+                  absurd
+                  (s .searched .none n (next-or-visited s some e d n (subst T (sym (ordinary-member g n)) o) differ v)
+                  (twin n r (visit-lt s some e) (ordinary-in r (visit-in s some e)) differ same))
+            ]
+
+-- ---- declared pairs
+-- A member of the set is in conflict with p, as the higher of the two.
+abbrev pub has-partner : List ℕ → ℕ → ℕ → Bool
+has-partner C all p = any role-count (λ q. member q all && conflict C p q)
+
+-- The partners of p are among those left after it.
+module _ (C : List ℕ) {all rest : ℕ} (s : Search (has-partner C all) all rest) (some : rest ≢ 0) {p : ℕ} (e : p ≡ lowest-member role-count rest)
+    {next : ℕ} (d : next ≡ without-lowest role-count rest) where
+  partner-test : has-partner C all p ≡ not (eqb (intersection next (at C p)) 0)
+  unfolding conflict
+  partner-test =
+      any-cong role-count (λ q. member q all && conflict C p q) (λ q. member q next && member q (at C p))
+      (λ q _. and-regroup (member q all) (ltb p q) (member q (at C p)) ∙ ap (λ (b : Bool). b && member q (at C p)) (sym (next-higher s some e d q)))
+      ∙ common-test next (at C p) (next-lt s some e d)
+
+  pub partner-found : intersection next (at C p) ≢ 0 → has-partner C all p ≡ true
+  partner-found h = partner-test ∙ ap not (ne-eqb (intersection next (at C p)) 0 h)
+
+  pub partner-none : intersection next (at C p) ≡ 0 → has-partner C all p ≡ false
+  partner-none z = partner-test ∙ ap not (eq-eqb (intersection next (at C p)) 0 z)
+
+-- ---- circles
+-- The roles below j, and j where it is a role.
+abbrev under : Graph → ℕ → ℕ
+under g j = union (collect role-count (λ r. below g r j)) (when (ltb j role-count) (single j))
+
+module _ (g : Graph) (j : ℕ) where
+  under-test : (n : ℕ) → n < role-count → member n (under g j) ≡ at-or-below g n j
+  unfolding at-or-below
+  under-test n k =
+      member-union n (collect role-count (λ r. below g r j)) (when (ltb j role-count) (single j))
+      ∙ ap₂ _||_ (member-collect n role-count (λ r. below g r j) ∙ ap (λ (b : Bool). b && below g n j) (lt-ltb n role-count k))
+      (member-when n (ltb j role-count) (single j) ∙ ap (λ (b : Bool). ltb j role-count && b) (member-single n j) ∙ same)
+      ∙ or-comm (below g n j) (eqb n j)
+    where
+      same : ltb j role-count && eqb n j ≡ eqb n j
+      same =
+          same-test (ltb j role-count && eqb n j) (eqb n j) (λ t. both (ltb j role-count) (eqb n j) t .1)
+          (λ t. let q : n ≡ j = test-equal t in join (ltb j role-count) (eqb n j) (lt→ltb j role-count (omega arith)) t)
+
+  under-lt : under g j < 2 ^ role-count
+  unfolding when
+  under-lt =
+      union-lt role-count _ _ (collect-lt role-count (λ r. below g r j))
+      (elim (decLt j role-count) [
+        | yes l ↦ when-lt role-count (ltb j role-count) (single j) (single-lt role-count j l)
+        | no d ↦ rw (le-ltb j role-count (omega arith)) (pow-pos role-count)
+      ])
+
+  -- Some senior is j or lies below it.
+  pub circle-test : (seniors : ℕ) → any role-count (λ s. member s seniors && at-or-below g s j) ≡ not (eqb (intersection (under g j) seniors) 0)
+  circle-test seniors =
+      any-cong role-count (λ s. member s seniors && at-or-below g s j) (λ s. member s (under g j) && member s seniors)
+      (λ s k. and-comm (member s seniors) (at-or-below g s j) ∙ ap (λ (b : Bool). b && member s seniors) (sym (under-test s k)))
+      ∙ common-test (under g j) seniors under-lt

@@ -1,0 +1,40 @@
+-- Loops over the roles in a set that work one set into their entries of a table.
+-- Assumes nothing.
+use mathlib.Core.Path.{_≡_, refl, sym, ap, _∙_, subst}
+use mathlib.Core.Bool.{Bool, true, false, cond, not}
+use mathlib.Core.Logic.{_≢_}
+use mathlib.Core.List.{List}
+use Prim.Native.Nat.{ℕ}
+use lib.Bits.{or-zero-r}
+use lib.Dec.{T, T-not}
+use Rattle.sets.specs.Sets.{member, union, when, lowest-member}
+use Rattle.sets.proofs.Tests.{both, fails}
+use Rattle.sets.proofs.Walks.{lowest-in, visited}
+use Rattle.graph.specs.Tables.{at, table}
+use Rattle.graph.specs.Graph.{role-count}
+use Rattle.graph.proofs.Loops.{Left, Filling, filling-done}
+use Rattle.graph.proofs.Drawings.{table-cong}
+
+pub union-empty : (s : ℕ) → union s 0 ≡ s
+unfolding union
+union-empty s = or-zero-r s
+
+-- The role that a turn takes is one of those left.
+pub left-in : {all rest n : ℕ} → Left all rest → rest ≢ 0 → n ≡ lowest-member role-count rest → T (member n rest)
+left-in {rest = rest} l some e = subst (λ (i : ℕ). T (member i rest)) (sym e) (lowest-in role-count rest (l .fits) some)
+
+-- Its entry is the old one still.
+pub filling-left : {f old : ℕ → ℕ} {all rest n : ℕ} {l : List ℕ} → Filling f old all rest l → rest ≢ 0 → n ≡ lowest-member role-count rest → at l n ≡ old n
+unfolding visited
+filling-left {f} {old} {all} {rest} {n} w some e =
+    w .got n ∙ ap (λ (b : Bool). cond b (f n) (old n)) (fails (visited all rest n) (λ v. T-not (member n rest) (both (member n all) (not (member n rest)) v .1) (left-in (w .left) some e)))
+
+-- With s worked in by op where a role was visited, at the end s is worked into the entry of each member.
+pub worked-done : (op : ℕ → ℕ → ℕ) → ((x : ℕ) → op x 0 ≡ x) → (s : ℕ) (old : List ℕ) {all rest : ℕ} {l : List ℕ} → Filling (λ r. op (at old r) s) (at old) all rest l → rest ≡ 0
+    → l ≡ table role-count (λ r. op (at old r) (when (member r all) s))
+unfolding when
+worked-done op none s old {all} w e = filling-done w e ∙ table-cong role-count _ _ (λ r _. part (member r all) (at old r))
+  where
+    part : (b : Bool) (x : ℕ) → cond b (op x s) x ≡ op x (when b s)
+    part true x = refl
+    part false x = sym (none x)

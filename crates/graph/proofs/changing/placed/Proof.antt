@@ -1,0 +1,109 @@
+-- `changing::placed` meets its contract: one role more, edges from its juniors and to its seniors.
+-- Assumes nothing.
+use mathlib.Core.Path.{refl, ap, _∙_}
+use borrow.Author.Needs.{needs}
+use Rattle.sets.specs.Sets.{union}
+use Rattle.graph.specs.Tables.{at}
+use Rattle.graph.proofs.Carrying.{place-lt, place-carried, may-close, closes-to, stored-union, joined-all, read-directs, known-single}
+use Rattle.graph.proofs.changing.placed.Statement.{statement}
+use Rattle.graph.proofs.changing.placed.Tie as tie
+
+cast-i : tie.Need-cast-i
+cast-i c = search needs
+
+draw-requires : tie.Need-draw-requires
+draw-requires c κs = search needs
+
+senior-roles-requires : tie.Need-senior-roles-requires
+senior-roles-requires c κs = search needs
+
+direct-sets-requires : tie.Need-direct-sets-requires
+direct-sets-requires c κs = search needs
+
+mul-union : tie.Need-mul-union
+mul-union c = search needs
+
+array-read-union : tie.Need-array-read-union
+unfolding at
+array-read-union c =
+    place-lt (c .before .before .before .before .before .args .roles) (search needs) (c .before .before .before .before .before .args .sets .now) (c .before .before .before .before .before .args .a .0) (c .before .before .before .before .before .args .own) (c .before .before .before .before .before .args .juniors) (c .before .before .before .before .before .args .seniors) (c .before .before .before .before .before .pre)
+
+union-requires : tie.Need-union-requires
+union-requires c κs = search needs
+
+mul-directs : tie.Need-mul-directs
+mul-directs c = search needs
+
+array-write-directs : tie.Need-array-write-directs
+unfolding at
+array-write-directs c =
+    place-lt (c .before .before .before .before .before .before .args .roles) (search needs) (c .before .before .before .before .before .before .args .sets .now) (c .before .before .before .before .before .before .args .a .0) (c .before .before .before .before .before .before .args .own) (c .before .before .before .before .before .before .args .juniors) (c .before .before .before .before .before .before .args .seniors) (c .before .before .before .before .before .before .pre)
+
+single-requires : tie.Need-single-requires
+single-requires c κs = search needs
+
+put-all-requires : tie.Need-put-all-requires
+put-all-requires c κs = search needs
+
+mul-union-2 : tie.Need-mul-union-2
+mul-union-2 c = search needs
+
+array-read-union-2 : tie.Need-array-read-union-2
+unfolding at
+array-read-union-2 c =
+    place-lt (c .before .before .before .before .before .before .before .before .before .args .roles) (search needs) (c .before .before .before .before .before .before .before .before .before .args .sets .now) (c .before .before .before .before .before .before .before .before .before .args .a .0) (c .before .before .before .before .before .before .before .before .before .args .own) (c .before .before .before .before .before .before .before .before .before .args .juniors) (c .before .before .before .before .before .before .before .before .before .args .seniors) (c .before .before .before .before .before .before .before .before .before .pre)
+
+union-requires-2 : tie.Need-union-requires-2
+union-requires-2 c κs = search needs
+
+mul-joins : tie.Need-mul-joins
+mul-joins c = search needs
+
+array-write-joins : tie.Need-array-write-joins
+unfolding at
+array-write-joins c =
+    place-lt (c .before .before .before .before .before .before .before .before .before .before .args .roles) (search needs) (c .before .before .before .before .before .before .before .before .before .before .args .sets .now) (c .before .before .before .before .before .before .before .before .before .before .args .a .0) (c .before .before .before .before .before .before .before .before .before .before .args .own) (c .before .before .before .before .before .before .before .before .before .before .args .juniors) (c .before .before .before .before .before .before .before .before .before .before .args .seniors) (c .before .before .before .before .before .before .before .before .before .before .pre)
+
+single-requires-2 : tie.Need-single-requires-2
+single-requires-2 c κs = search needs
+
+union-requires-3 : tie.Need-union-requires-3
+union-requires-3 c κs = search needs
+
+closed-requires : tie.Need-closed-requires
+unfolding at
+closed-requires c κs =
+    may-close (place-carried (c .before .before .before .before .before .before .before .before .before .before .before .before .before .args .roles) (search needs) (c .before .before .before .before .before .before .before .before .before .before .before .before .before .args .sets .now) (c .before .before .before .before .before .before .before .before .before .before .before .before .before .args .a .0) (c .before .before .before .before .before .before .before .before .before .before .before .before .before .args .own) (c .before .before .before .before .before .before .before .before .before .before .before .before .before .args .juniors) (c .before .before .before .before .before .before .before .before .before .before .before .before .before .args .seniors) (search needs) (search needs) (search needs) (c .before .before .before .before .before .before .before .before .before .before .before .before .before .pre)) (c .before .union3 .ensures ∙ ap (union (c .before .before .before .before .before .before .before .before .before .before .before .before .before .args .roles)) (known-single (c .before .before .before .before .before .before .before .before .before .before .before .before .before .args .a .0) (place-lt (c .before .before .before .before .before .before .before .before .before .before .before .before .before .args .roles) (search needs) (c .before .before .before .before .before .before .before .before .before .before .before .before .before .args .sets .now) (c .before .before .before .before .before .before .before .before .before .before .before .before .before .args .a .0) (c .before .before .before .before .before .before .before .before .before .before .before .before .before .args .own) (c .before .before .before .before .before .before .before .before .before .before .before .before .before .args .juniors) (c .before .before .before .before .before .before .before .before .before .before .before .before .before .args .seniors) (c .before .before .before .before .before .before .before .before .before .before .before .before .before .pre)) (c .before .before .single2 .ensures)))
+    (stored-union (c .before .before .before .before .before .before .before .before .before .before .before .before .before .args .a .0) (joined-all (c .before .before .before .before .before .before .before .before .before .before .before .draw .ensures) refl (known-single (c .before .before .before .before .before .before .before .before .before .before .before .before .before .args .a .0) (place-lt (c .before .before .before .before .before .before .before .before .before .before .before .before .before .args .roles) (search needs) (c .before .before .before .before .before .before .before .before .before .before .before .before .before .args .sets .now) (c .before .before .before .before .before .before .before .before .before .before .before .before .before .args .a .0) (c .before .before .before .before .before .before .before .before .before .before .before .before .before .args .own) (c .before .before .before .before .before .before .before .before .before .before .before .before .before .args .juniors) (c .before .before .before .before .before .before .before .before .before .before .before .before .before .args .seniors) (c .before .before .before .before .before .before .before .before .before .before .before .before .before .pre)) (c .before .before .before .before .before .single .ensures)) (c .before .before .before .before .put-all .ensures)) (c .before .before .before .union2 .ensures) refl)
+
+returns : tie.Need-returns
+unfolding at
+returns c =
+    closes-to (place-carried (c .before .before .before .before .before .before .before .before .before .before .before .before .before .before .args .roles) (search needs) (c .before .before .before .before .before .before .before .before .before .before .before .before .before .before .args .sets .now) (c .before .before .before .before .before .before .before .before .before .before .before .before .before .before .args .a .0) (c .before .before .before .before .before .before .before .before .before .before .before .before .before .before .args .own) (c .before .before .before .before .before .before .before .before .before .before .before .before .before .before .args .juniors) (c .before .before .before .before .before .before .before .before .before .before .before .before .before .before .args .seniors) (search needs) (search needs) (search needs) (c .before .before .before .before .before .before .before .before .before .before .before .before .before .before .pre)) (c .before .before .union3 .ensures ∙ ap (union (c .before .before .before .before .before .before .before .before .before .before .before .before .before .before .args .roles)) (known-single (c .before .before .before .before .before .before .before .before .before .before .before .before .before .before .args .a .0) (place-lt (c .before .before .before .before .before .before .before .before .before .before .before .before .before .before .args .roles) (search needs) (c .before .before .before .before .before .before .before .before .before .before .before .before .before .before .args .sets .now) (c .before .before .before .before .before .before .before .before .before .before .before .before .before .before .args .a .0) (c .before .before .before .before .before .before .before .before .before .before .before .before .before .before .args .own) (c .before .before .before .before .before .before .before .before .before .before .before .before .before .before .args .juniors) (c .before .before .before .before .before .before .before .before .before .before .before .before .before .before .args .seniors) (c .before .before .before .before .before .before .before .before .before .before .before .before .before .before .pre)) (c .before .before .before .single2 .ensures)))
+    (stored-union (c .before .before .before .before .before .before .before .before .before .before .before .before .before .before .args .a .0) (read-directs (c .before .before .before .before .before .before .before .before .before .before .before .before .before .before .args .roles) (c .before .before .before .before .before .before .before .before .before .before .before .before .before .before .args .sets .now) (c .before .before .before .before .before .before .before .before .before .before .before .senior-roles .ensures) (c .before .before .before .before .before .before .before .before .before .before .before .before .draw .ensures) (c .before .before .before .before .before .before .before .before .before .direct-sets .ensures)) (c .before .before .before .before .before .before .before .before .union .ensures) refl)
+    (stored-union (c .before .before .before .before .before .before .before .before .before .before .before .before .before .before .args .a .0) (joined-all (c .before .before .before .before .before .before .before .before .before .before .before .before .draw .ensures) refl (known-single (c .before .before .before .before .before .before .before .before .before .before .before .before .before .before .args .a .0) (place-lt (c .before .before .before .before .before .before .before .before .before .before .before .before .before .before .args .roles) (search needs) (c .before .before .before .before .before .before .before .before .before .before .before .before .before .before .args .sets .now) (c .before .before .before .before .before .before .before .before .before .before .before .before .before .before .args .a .0) (c .before .before .before .before .before .before .before .before .before .before .before .before .before .before .args .own) (c .before .before .before .before .before .before .before .before .before .before .before .before .before .before .args .juniors) (c .before .before .before .before .before .before .before .before .before .before .before .before .before .before .args .seniors) (c .before .before .before .before .before .before .before .before .before .before .before .before .before .before .pre)) (c .before .before .before .before .before .before .single .ensures)) (c .before .before .before .before .before .put-all .ensures)) (c .before .before .before .before .union2 .ensures) refl) (c .closed .ensures)
+
+pub placed-spec : {M : Type 1} → statement M
+placed-spec =
+    tie.close
+    (tie.spec
+    cast-i
+    draw-requires
+    senior-roles-requires
+    direct-sets-requires
+    mul-union
+    array-read-union
+    union-requires
+    mul-directs
+    array-write-directs
+    single-requires
+    put-all-requires
+    mul-union-2
+    array-read-union-2
+    union-requires-2
+    mul-joins
+    array-write-joins
+    single-requires-2
+    union-requires-3
+    closed-requires
+    returns)

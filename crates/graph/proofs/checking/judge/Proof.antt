@@ -1,0 +1,102 @@
+-- `checking::judge` meets its contract: each kind has its judge.
+-- Assumes nothing.
+use borrow.Author.Needs.{needs}
+use Rattle.graph.specs.Reading.{read-change}
+use Rattle.graph.proofs.checking.judge.Statement.{statement}
+use Rattle.graph.proofs.checking.judge.Tie as tie
+
+enum-known-change : tie.Need-enum-known-change
+enum-known-change c = search needs
+
+judge-place-requires : tie.Need-judge-place-requires
+judge-place-requires c κs = search needs
+
+enum-known-change-2 : tie.Need-enum-known-change-2
+enum-known-change-2 c = search needs
+
+judge-add-requires : tie.Need-judge-add-requires
+judge-add-requires c κs = search needs
+
+enum-known-change-3 : tie.Need-enum-known-change-3
+enum-known-change-3 c = search needs
+
+judge-remove-requires : tie.Need-judge-remove-requires
+judge-remove-requires c κs = search needs
+
+enum-known-change-4 : tie.Need-enum-known-change-4
+enum-known-change-4 c = search needs
+
+judge-grant-requires : tie.Need-judge-grant-requires
+judge-grant-requires c κs = search needs
+
+enum-known-change-5 : tie.Need-enum-known-change-5
+enum-known-change-5 c = search needs
+
+judge-withdraw-requires : tie.Need-judge-withdraw-requires
+judge-withdraw-requires c κs = search needs
+
+enum-known-change-6 : tie.Need-enum-known-change-6
+enum-known-change-6 c = search needs
+
+judge-link-requires : tie.Need-judge-link-requires
+judge-link-requires c κs = search needs
+
+enum-known-change-7 : tie.Need-enum-known-change-7
+enum-known-change-7 c = search needs
+
+judge-unlink-requires : tie.Need-judge-unlink-requires
+judge-unlink-requires c κs = search needs
+
+returns : tie.Need-returns
+unfolding read-change
+returns c = rw (c .before .before .change .given .1) (c .judge-place .ensures)
+
+returns-2 : tie.Need-returns-2
+unfolding read-change
+returns-2 c = rw (c .before .before .change2 .given .1) (c .judge-add .ensures)
+
+returns-3 : tie.Need-returns-3
+unfolding read-change
+returns-3 c = rw (c .before .before .change3 .given .1) (c .judge-remove .ensures)
+
+returns-4 : tie.Need-returns-4
+unfolding read-change
+returns-4 c = rw (c .before .before .change4 .given .1) (c .judge-grant .ensures)
+
+returns-5 : tie.Need-returns-5
+unfolding read-change
+returns-5 c = rw (c .before .before .change5 .given .1) (c .judge-withdraw .ensures)
+
+returns-6 : tie.Need-returns-6
+unfolding read-change
+returns-6 c = rw (c .before .before .change6 .given .1) (c .judge-link .ensures)
+
+returns-7 : tie.Need-returns-7
+unfolding read-change
+returns-7 c = rw (c .before .before .change7 .given .1) (c .judge-unlink .ensures)
+
+pub judge-spec : {M : Type 1} → statement M
+judge-spec =
+    tie.close
+    (tie.spec
+    enum-known-change
+    judge-place-requires
+    enum-known-change-2
+    judge-add-requires
+    enum-known-change-3
+    judge-remove-requires
+    enum-known-change-4
+    judge-grant-requires
+    enum-known-change-5
+    judge-withdraw-requires
+    enum-known-change-6
+    judge-link-requires
+    enum-known-change-7
+    judge-unlink-requires
+    returns
+    returns-2
+    returns-3
+    returns-4
+    returns-5
+    returns-6
+    returns-7)

@@ -1,0 +1,189 @@
+-- `graph::close::close_role` and `graph::close::gather`, which call each other, meet their contracts: a role's entry is done once its juniors are gathered.
+-- What falls is the height of the role, how many roles the longest way down from it has. Assumes nothing.
+use mathlib.Core.Path.{sym, _∙_, subst}
+use Prim.Native.Nat.{ℕ, _+_, _*_, _<_}
+use native.Mathlib.Omega.{arith}
+use borrow.Author.Needs.{needs}
+use lib.Dec.{T}
+use Rattle.graph.specs.Tables.{at}
+use Rattle.graph.specs.Graph.{role-count}
+use Rattle.graph.proofs.Acyclic.{height, height-falls}
+use Rattle.graph.proofs.Loops.{left-lowest, left-falls, gathering-done}
+use Rattle.graph.proofs.Stores.{left-in}
+use Rattle.graph.proofs.Memo.{role-closed, Joined, joined-none, joined-next}
+use borrow.Fn.Kinds.{In}
+use borrow.Fn.PlainCycle.{Measures, is, falls, and}
+use Rattle.graph.proofs.close.close_role.Reads as close-role
+use Rattle.graph.proofs.close.close_role.Kinds as close-role-kinds
+use Rattle.graph.proofs.close.+close_role+gather.Lts-close_role as close-role-lts
+use Rattle.graph.proofs.close.gather.Reads as gather
+use Rattle.graph.proofs.close.gather.Kinds as gather-kinds
+use Rattle.graph.proofs.close.+close_role+gather.Lts-gather as gather-lts
+use Rattle.graph.proofs.entries.entry.Reads as entry-reads
+use Rattle.sets.proofs.lowest_member.Reads as lowest-member-reads
+use Rattle.sets.proofs.member.Reads as member-reads
+use Rattle.sets.proofs.single.Reads as single-reads
+use Rattle.sets.proofs.union.Reads as union-reads
+use Rattle.sets.proofs.without_lowest.Reads as without-lowest-reads
+use Rattle.graph.proofs.close.+close_role+gather.{statement}
+use Rattle.graph.proofs.close.+close_role+gather.Tie.{close}
+
+abbrev μ-close-role : Measures 3 close-role-kinds.ps ℕ
+μ-close-role κs a = height (a .1 .0 .now) (a .1 .1 .1 .1 .0) * 2 + 1
+
+abbrev μ-gather : Measures 3 gather-kinds.ps ℕ
+μ-gather κs a = height (a .1 .0 .now) (a .1 .1 .1 .1 .0) * 2
+
+abbrev close-role-at : ℕ → In 3 close-role-kinds.ps
+close-role-at t =
+    and 3 close-role-kinds.ps (is 3 close-role-kinds.ps μ-close-role t) close-role.Pre
+
+abbrev close-role-below : ℕ → In 3 close-role-kinds.ps
+close-role-below t =
+    and 3 close-role-kinds.ps (falls 3 close-role-kinds.ps _<_ μ-close-role t) close-role.Pre
+
+abbrev gather-at : ℕ → In 3 gather-kinds.ps
+gather-at t = and 3 gather-kinds.ps (is 3 gather-kinds.ps μ-gather t) gather.Pre
+
+abbrev gather-below : ℕ → In 3 gather-kinds.ps
+gather-below t = and 3 gather-kinds.ps (falls 3 gather-kinds.ps _<_ μ-gather t) gather.Pre
+
+abbrev close-role-claims : ℕ → close-role-lts.Claims
+close-role-claims t = (member-reads.Asked, member-reads.Learnt, gather-below t, gather.Post, union-reads.Asked, union-reads.Learnt, single-reads.Asked, single-reads.Learnt)
+
+abbrev gather-claims : ℕ → gather-lts.Claims
+gather-claims t = (entry-reads.Asked, entry-reads.Learnt, lowest-member-reads.Asked, lowest-member-reads.Learnt, close-role-below t, close-role.Post, union-reads.Asked, union-reads.Learnt, without-lowest-reads.Asked, without-lowest-reads.Learnt)
+
+close-role-member-requires : (t : ℕ) → close-role-lts.Need-member-requires (close-role-claims t) (close-role-at t) close-role.Post
+close-role-member-requires t c κs = search needs
+
+close-role-returns : (t : ℕ) → close-role-lts.Need-returns (close-role-claims t) (close-role-at t) close-role.Post
+close-role-returns t c =
+    let p = c .before .before in
+    (p .pre .1 .1 .1, (λ n m. m, subst T (sym (c .if1 .taken) ∙ c .before .member .ensures) tt))
+
+close-role-gather-requires : (t : ℕ) → close-role-lts.Need-gather-requires (close-role-claims t) (close-role-at t) close-role.Post
+close-role-gather-requires t c κs =
+    (omega arith, c .before .before .before .pre .1)
+
+close-role-mul-union : (t : ℕ) → close-role-lts.Need-mul-union (close-role-claims t) (close-role-at t) close-role.Post
+close-role-mul-union t c = search needs
+
+close-role-element-copy-out-union : (t : ℕ) → close-role-lts.Need-element-copy-out-union (close-role-claims t) (close-role-at t) close-role.Post
+close-role-element-copy-out-union t c = search needs
+
+close-role-union-requires : (t : ℕ) → close-role-lts.Need-union-requires (close-role-claims t) (close-role-at t) close-role.Post
+close-role-union-requires t c κs = search needs
+
+close-role-mul-sets : (t : ℕ) → close-role-lts.Need-mul-sets (close-role-claims t) (close-role-at t) close-role.Post
+close-role-mul-sets t c = search needs
+
+close-role-element-write-sets : (t : ℕ) → close-role-lts.Need-element-write-sets (close-role-claims t) (close-role-at t) close-role.Post
+close-role-element-write-sets t c = search needs
+
+close-role-single-requires : (t : ℕ) → close-role-lts.Need-single-requires (close-role-claims t) (close-role-at t) close-role.Post
+close-role-single-requires t c κs = search needs
+
+close-role-union-requires-2 : (t : ℕ) → close-role-lts.Need-union-requires-2 (close-role-claims t) (close-role-at t) close-role.Post
+close-role-union-requires-2 t c κs = search needs
+
+close-role-returns-2 : (t : ℕ) → close-role-lts.Need-returns-2 (close-role-claims t) (close-role-at t) close-role.Post
+unfolding at
+close-role-returns-2 t c =
+    let p = c .before .before .before .before .before .before .before .before in
+    let g = c .before .before .before .before .gather in
+    role-closed (p .args .done) (p .pre .1 .1 .0) (p .pre .1 .0) (g .ensures .0) (g .ensures .1 .0) (g .ensures .1 .1) (c .before .before .union .ensures) (c .before .single .ensures) (c .union2 .ensures)
+
+abbrev gather-Inv-loop : gather-lts.InvT-loop
+gather-Inv-loop directs juniors sets₀ before r done₀ set₀ rest₀ sets done set rest = Joined directs juniors before (at juniors r) sets done set rest
+
+abbrev gather-μ-loop : gather-lts.MeasureT-loop
+gather-μ-loop directs juniors sets₀ before r done₀ set₀ rest₀ sets done set rest = rest
+
+gather-entry-requires : (t : ℕ) → gather-lts.Need-entry-requires (gather-claims t) (gather-at t) gather.Post gather-Inv-loop gather-μ-loop
+gather-entry-requires t c κs = search needs
+
+gather-loop-holds : (t : ℕ) → gather-lts.Need-loop-holds (gather-claims t) (gather-at t) gather.Post gather-Inv-loop gather-μ-loop
+gather-loop-holds t c =
+    let p = c .before .before in
+    subst (λ (i : ℕ). Joined (p .args .directs .now) (p .args .juniors .now) (p .args .before) i (p .args .sets .now) (p .args .before) 0 (c .entry .result)) (c .entry .ensures)
+    (joined-none (c .entry .ok) (p .pre .1 .1 .1))
+
+gather-lowest-member-requires : (t : ℕ) → gather-lts.Need-lowest-member-requires (gather-claims t) (gather-at t) gather.Post gather-Inv-loop gather-μ-loop
+gather-lowest-member-requires t c κs = search needs
+
+gather-cast-t : (t : ℕ) → gather-lts.Need-cast-t (gather-claims t) (gather-at t) gather.Post gather-Inv-loop gather-μ-loop
+gather-cast-t t c = search needs
+
+gather-below-count : (t : ℕ) (c : gather-lts.After-lowest-member (gather-claims t) (gather-at t) gather.Post gather-Inv-loop gather-μ-loop) → c .lowest-member .result < role-count
+gather-below-count t c = left-lowest (c .before .before .loop .inv .sum .left) (c .before .loop-test .taken) (c .lowest-member .ensures)
+
+gather-close-role-requires : (t : ℕ) → gather-lts.Need-close-role-requires (gather-claims t) (gather-at t) gather.Post gather-Inv-loop gather-μ-loop
+gather-close-role-requires t c κs =
+    let p = c .before .before .before .before .before .before in
+    let w = c .before .before .before .loop .inv in
+    let m = c .before .lowest-member in
+    let below = gather-below-count t (c .before) in
+    let junior = w .sum .left .within (m .result) (left-in (w .sum .left) (c .before .before .loop-test .taken) (m .ensures)) in
+    let h = height-falls (p .args .juniors .now) (p .pre .1 .1 .0) (m .result) (p .args .r) below (p .pre .1 .0) junior in
+    (omega arith, (below, (p .pre .1 .1 .0, w .memo)))
+
+gather-mul-union : (t : ℕ) → gather-lts.Need-mul-union (gather-claims t) (gather-at t) gather.Post gather-Inv-loop gather-μ-loop
+gather-mul-union t c = search needs
+
+gather-element-copy-out-union : (t : ℕ) → gather-lts.Need-element-copy-out-union (gather-claims t) (gather-at t) gather.Post gather-Inv-loop gather-μ-loop
+gather-element-copy-out-union t c = gather-below-count t (c .before .before)
+
+gather-union-requires : (t : ℕ) → gather-lts.Need-union-requires (gather-claims t) (gather-at t) gather.Post gather-Inv-loop gather-μ-loop
+gather-union-requires t c κs = search needs
+
+gather-without-lowest-requires : (t : ℕ) → gather-lts.Need-without-lowest-requires (gather-claims t) (gather-at t) gather.Post gather-Inv-loop gather-μ-loop
+gather-without-lowest-requires t c κs = search needs
+
+gather-loop-less : (t : ℕ) → gather-lts.Need-loop-less (gather-claims t) (gather-at t) gather.Post gather-Inv-loop gather-μ-loop
+gather-loop-less t c = left-falls (c .before .before .before .before .before .before .before .loop .inv .sum .left) (c .before .before .before .before .before .before .loop-test .taken) (c .without-lowest .ensures)
+
+gather-loop-again : (t : ℕ) → gather-lts.Need-loop-again (gather-claims t) (gather-at t) gather.Post gather-Inv-loop gather-μ-loop
+unfolding at
+gather-loop-again t c =
+    let k = c .before .before .before .close-role in
+    joined-next (c .before .before .before .before .before .before .before .loop .inv) (c .before .before .before .before .before .before .loop-test .taken) (c .before .before .before .before .before .lowest-member .ensures)
+    (k .ensures .0) (k .ensures .1 .0) (k .ensures .1 .1) (c .before .union .ensures) (c .without-lowest .ensures)
+
+gather-returns : (t : ℕ) → gather-lts.Need-returns (gather-claims t) (gather-at t) gather.Post gather-Inv-loop gather-μ-loop
+gather-returns t c =
+    let w = c .before .loop .inv in
+    (w .memo, (w .kept, gathering-done (w .sum) (c .loop-test .left)))
+
+pub +close-role+gather-spec : {M : Type 1} → statement M
++close-role+gather-spec = close μ-close-role μ-gather (λ t. close-role-lts.spec (close-role-claims t)
+    (close-role-at t)
+    close-role.Post
+    (close-role-member-requires t)
+    (close-role-returns t)
+    (close-role-gather-requires t)
+    (close-role-mul-union t)
+    (close-role-element-copy-out-union t)
+    (close-role-union-requires t)
+    (close-role-mul-sets t)
+    (close-role-element-write-sets t)
+    (close-role-single-requires t)
+    (close-role-union-requires-2 t)
+    (close-role-returns-2 t))
+    λ t. gather-lts.spec (gather-claims t)
+    (gather-at t)
+    gather.Post
+    gather-Inv-loop
+    gather-μ-loop
+    (gather-entry-requires t)
+    (gather-loop-holds t)
+    (gather-lowest-member-requires t)
+    (gather-cast-t t)
+    (gather-close-role-requires t)
+    (gather-mul-union t)
+    (gather-element-copy-out-union t)
+    (gather-union-requires t)
+    (gather-without-lowest-requires t)
+    (gather-loop-less t)
+    (gather-loop-again t)
+    (gather-returns t)

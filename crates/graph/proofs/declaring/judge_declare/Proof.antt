@@ -1,0 +1,79 @@
+-- `graph::declaring::judge_declare` meets its contract: it judges by one check after the other.
+-- Assumes nothing.
+use borrow.Author.Needs.{needs}
+use mathlib.Core.Path.{_∙_, sym, ap}
+use Rattle.graph.specs.Graph.{ordinary, effective}
+use Rattle.graph.specs.Refusing.{refused, offered-role, declare-checks}
+use Rattle.graph.specs.Reading.{read-verdict}
+use Rattle.graph.proofs.Judging.{stops, moves-on, ends, refused-first, passed-first, place-found, place-none}
+use Rattle.graph.proofs.declaring.judge_declare.Statement.{statement}
+use Rattle.graph.proofs.declaring.judge_declare.Tie as tie
+
+judge-pair-requires : tie.Need-judge-pair-requires
+judge-pair-requires c κs = search needs
+
+enum-told : tie.Need-enum-told
+enum-told c = search needs
+
+enum-told-2 : tie.Need-enum-told-2
+enum-told-2 c = search needs
+
+returns : tie.Need-returns
+unfolding declare-checks
+returns c = refused-first _ _ (c .before .before .judge-pair .ensures) (c .enum-told2 .given .1)
+
+is-declared-requires : tie.Need-is-declared-requires
+is-declared-requires c κs = search needs
+
+refuse-requires : tie.Need-refuse-requires
+refuse-requires c κs = search needs
+
+returns-2 : tie.Need-returns-2
+unfolding declare-checks
+returns-2 c =
+    let b = c .before .before in
+    c .refuse .ensures
+    ∙ sym (passed-first _ _ (b .before .before .before .judge-pair .ensures) (b .before .enum-told .given .1)
+    ∙ stops _ _ (sym (b .is-declared .ensures) ∙ c .before .if1 .taken))
+
+offered-role-requires : tie.Need-offered-role-requires
+offered-role-requires c κs = search needs
+
+refuse-requires-2 : tie.Need-refuse-requires-2
+refuse-requires-2 c κs = search needs
+
+returns-3 : tie.Need-returns-3
+unfolding ordinary effective offered-role declare-checks
+returns-3 c =
+    let o = c .before .before in
+    let b = o .before .before in
+    c .refuse2 .ensures ∙ ap (refused 29) (o .offered-role .ensures)
+    ∙ sym (passed-first _ _ (b .before .before .before .judge-pair .ensures) (b .before .enum-told .given .1)
+    ∙ moves-on _ _ (sym (b .is-declared .ensures) ∙ o .before .if1 .left)
+    ∙ stops _ _ (place-found _ (o .offered-role .ensures) (c .before .if2 .taken)))
+
+returns-4 : tie.Need-returns-4
+unfolding ordinary effective offered-role declare-checks read-verdict
+returns-4 c =
+    let o = c .before in
+    let b = o .before .before in
+    ends
+    ∙ sym (passed-first _ _ (b .before .before .before .judge-pair .ensures) (b .before .enum-told .given .1)
+    ∙ moves-on _ _ (sym (b .is-declared .ensures) ∙ o .before .if1 .left)
+    ∙ moves-on _ _ (place-none _ (o .offered-role .ensures) (c .if2 .left)))
+
+pub judge-declare-spec : {M : Type 1} → statement M
+judge-declare-spec =
+    tie.close
+    (tie.spec
+    judge-pair-requires
+    enum-told
+    enum-told-2
+    returns
+    is-declared-requires
+    refuse-requires
+    returns-2
+    offered-role-requires
+    refuse-requires-2
+    returns-3
+    returns-4)

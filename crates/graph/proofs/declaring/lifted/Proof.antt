@@ -1,0 +1,82 @@
+-- `graph::declaring::lifted` meets its contract: the code takes the higher privilege out of the entry of the lower one, and no table of 64 entries has a further one.
+-- Assumes nothing.
+use borrow.Author.Needs.{needs}
+use borrow.Author.Tests.{lt-ltb, le-ltb}
+use mathlib.Core.Path.{_≡_, sym, ap, _∙_}
+use Prim.Native.Nat.{ℕ, _<_, _^_}
+use native.Mathlib.Decide.{decLt}
+use native.Mathlib.Omega.{arith}
+use lib.Dec.{ltb}
+use lib.ListN.{set}
+use lib.Seq.{set-out}
+use Rattle.sets.specs.Sets.{single, difference, when}
+use Rattle.sets.proofs.Laws.{member-lt, difference-lt, difference-empty}
+use Rattle.sets.proofs.Members.{in-difference, difference-in, in-single, same-members}
+use Rattle.graph.specs.Tables.{take-out}
+use Rattle.graph.specs.Conflicts.{lift}
+use Rattle.graph.proofs.declaring.lifted.Statement.{statement}
+use Rattle.graph.proofs.declaring.lifted.Tie as tie
+
+lower-of-requires : tie.Need-lower-of-requires
+lower-of-requires c κs = search needs
+
+higher-of-requires : tie.Need-higher-of-requires
+higher-of-requires c κs = search needs
+
+entry-requires : tie.Need-entry-requires
+entry-requires c κs = search needs
+
+single-requires : tie.Need-single-requires
+single-requires c κs = search needs
+
+difference-requires : tie.Need-difference-requires
+difference-requires c κs = search needs
+
+mul-conflicts : tie.Need-mul-conflicts
+mul-conflicts c = search needs
+
+element-write-conflicts : tie.Need-element-write-conflicts
+element-write-conflicts c = search needs
+
+-- Taking out a number beyond the width takes nothing out.
+taken-out : (w s n : ℕ) → s < 2 ^ w → difference s (when (ltb n w) (single n)) ≡ difference s (single n)
+unfolding when
+taken-out w s n h =
+    elim (decLt n w) [
+      | yes l ↦ rw (lt-ltb n w l)
+      | no d ↦ rw (le-ltb n w (omega arith)) (difference-empty s ∙ beyond d)
+    ]
+  where
+    beyond : (n < w → ⊥) → s ≡ difference s (single n)
+    beyond d =
+        same-members w s (difference s (single n)) h (difference-lt w s (single n) h)
+        (λ p m. difference-in p s (single n) m (λ y. let e = in-single p n y in let l = member-lt w p s h m in omega arith))
+        (λ p m. in-difference p s (single n) m .0)
+
+returns : tie.Need-returns
+unfolding take-out lift
+returns c =
+    let e = c .before .before .before .entry in
+    let h = c .before .before .before .before .before .before in
+    rw (← h .before .lower-of .ensures, ← h .higher-of .ensures)
+    (ap (set (h .before .before .args .conflicts .now) (h .before .lower-of .result))
+    (c .difference .ensures ∙ ap (difference _) (c .before .single .ensures) ∙ taken-out 64 (e .result) (h .higher-of .result) (search needs) ∙ ap (λ (s : ℕ). difference s (single (h .higher-of .result))) (e .ensures)))
+
+returns-2 : tie.Need-returns-2
+unfolding take-out lift
+returns-2 c =
+    sym (set-out _ _ _ (omega (arith, c .before .before .entry-arg2 .given .0, c .before .before .before .before .before .lower-of .ensures, c .if1 .left)))
+
+pub lifted-spec : {M : Type 1} → statement M
+lifted-spec =
+    tie.close
+    (tie.spec
+    lower-of-requires
+    higher-of-requires
+    entry-requires
+    single-requires
+    difference-requires
+    mul-conflicts
+    element-write-conflicts
+    returns
+    returns-2)

@@ -1,0 +1,95 @@
+-- `graph::drawing::direct_sets` meets its contract: the entries of the roles visited so far are filled in, and the others are as they were.
+-- Assumes nothing.
+use borrow.Author.Needs.{needs}
+use mathlib.Core.Path.{_∙_, ap}
+use Rattle.sets.specs.Sets.{member, difference, gather}
+use Rattle.graph.specs.Graph.{role-count}
+use Rattle.graph.specs.Tables.{at}
+use Rattle.graph.specs.Drawing.{direct-table}
+use Rattle.graph.proofs.Loops.{left-lowest, left-falls, Filling, filling-none, filling-next, filling-done}
+use Rattle.graph.proofs.drawing.direct_sets.Statement.{statement}
+use Rattle.graph.proofs.drawing.direct_sets.Tie as tie
+
+abbrev Inv-loop : tie.InvT-loop
+Inv-loop all sets juniors direct₀ rest₀ direct rest = Filling (λ s. difference (at sets s) (gather role-count (λ r. member r (at juniors s)) (at sets))) (at sets) all rest direct
+
+abbrev μ-loop : tie.MeasureT-loop
+μ-loop all sets juniors direct₀ rest₀ direct rest = rest
+
+copied-requires : tie.Need-copied-requires Inv-loop μ-loop
+copied-requires c κs = search needs
+
+loop-holds : tie.Need-loop-holds Inv-loop μ-loop
+loop-holds c = filling-none _ _ (c .before .args .all) _ (search needs) (c .copied .ensures .1) (λ i. ap (λ l. at l i) (c .copied .ensures .0))
+
+lowest-member-requires : tie.Need-lowest-member-requires Inv-loop μ-loop
+lowest-member-requires c κs = search needs
+
+cast-s : tie.Need-cast-s Inv-loop μ-loop
+cast-s c = search needs
+
+mul-gathered : tie.Need-mul-gathered Inv-loop μ-loop
+mul-gathered c = search needs
+
+element-copy-out-gathered : tie.Need-element-copy-out-gathered Inv-loop μ-loop
+element-copy-out-gathered c = left-lowest (c .before .before .loop .inv .left) (c .before .loop-test .taken) (c .lowest-member .ensures)
+
+gathered-requires : tie.Need-gathered-requires Inv-loop μ-loop
+gathered-requires c κs = search needs
+
+mul-difference : tie.Need-mul-difference Inv-loop μ-loop
+mul-difference c = search needs
+
+element-copy-out-difference : tie.Need-element-copy-out-difference Inv-loop μ-loop
+element-copy-out-difference c = left-lowest (c .before .before .before .before .loop .inv .left) (c .before .before .before .loop-test .taken) (c .before .before .lowest-member .ensures)
+
+difference-requires : tie.Need-difference-requires Inv-loop μ-loop
+difference-requires c κs = search needs
+
+mul-direct : tie.Need-mul-direct Inv-loop μ-loop
+mul-direct c = search needs
+
+array-write-direct : tie.Need-array-write-direct Inv-loop μ-loop
+array-write-direct c = left-lowest (c .before .before .before .before .before .before .loop .inv .left) (c .before .before .before .before .before .loop-test .taken) (c .before .before .before .before .lowest-member .ensures)
+
+without-lowest-requires : tie.Need-without-lowest-requires Inv-loop μ-loop
+without-lowest-requires c κs = search needs
+
+loop-less : tie.Need-loop-less Inv-loop μ-loop
+loop-less c =
+    let b = c .before .before .before .before .before .before in
+    left-falls (b .before .loop .inv .left) (b .loop-test .taken) (c .without-lowest .ensures)
+
+loop-again : tie.Need-loop-again Inv-loop μ-loop
+unfolding at
+loop-again c =
+    let b = c .before .before .before .before .before in
+    filling-next (b .before .before .loop .inv) (b .before .loop-test .taken) (b .lowest-member .ensures) (c .without-lowest .ensures)
+    (c .before .difference .ensures ∙ rw (c .before .before .before .gathered .ensures))
+
+returns : tie.Need-returns Inv-loop μ-loop
+unfolding direct-table
+returns c = filling-done (c .before .loop .inv) (c .loop-test .left)
+
+pub direct-sets-spec : {M : Type 1} → statement M
+direct-sets-spec =
+    tie.close
+    (tie.spec
+    Inv-loop
+    μ-loop
+    copied-requires
+    loop-holds
+    lowest-member-requires
+    cast-s
+    mul-gathered
+    element-copy-out-gathered
+    gathered-requires
+    mul-difference
+    element-copy-out-difference
+    difference-requires
+    mul-direct
+    array-write-direct
+    without-lowest-requires
+    loop-less
+    loop-again
+    returns)

@@ -1,0 +1,27 @@
+-- `graph::drawing::edge_count` meets its contract: the immediate juniors of all roles are as many as the edges.
+-- Assumes nothing.
+use borrow.Author.Needs.{needs}
+use mathlib.Core.Path.{_∙_}
+use Rattle.graph.specs.Reading.{drawn-from}
+use Rattle.graph.proofs.Drawings.{seniors-cover, edges-counted}
+use Rattle.graph.proofs.drawing.edge_count.Statement.{statement}
+use Rattle.graph.proofs.drawing.edge_count.Tie as tie
+
+draw-requires : tie.Need-draw-requires
+draw-requires c κs = search needs
+
+senior-roles-requires : tie.Need-senior-roles-requires
+senior-roles-requires c κs = search needs
+
+total-size-requires : tie.Need-total-size-requires
+total-size-requires c κs = search needs
+
+returns : tie.Need-returns
+returns c =
+    let b = c .before .before .before in
+    let g = drawn-from (b .before .args .roles) (b .before .args .sets .now) in
+    c .total-size .ensures ∙ rw (c .before .senior-roles .ensures, b .draw .ensures) (edges-counted g (search needs) _ (seniors-cover g))
+
+pub edge-count-spec : {M : Type 1} → statement M
+edge-count-spec =
+    tie.close (tie.spec draw-requires senior-roles-requires total-size-requires returns)

@@ -1,0 +1,65 @@
+-- `graph::drawing::gathered` meets its contract: the entries of the members visited so far are gathered.
+-- Assumes nothing.
+use borrow.Author.Needs.{needs}
+use Rattle.graph.specs.Tables.{at}
+use Rattle.graph.proofs.Loops.{left-lowest, left-falls, Gathering, gathering-none, gathering-next, gathering-done}
+use Rattle.graph.proofs.drawing.gathered.Statement.{statement}
+use Rattle.graph.proofs.drawing.gathered.Tie as tie
+
+abbrev Inv-loop : tie.InvT-loop
+Inv-loop table all found₀ rest₀ found rest = Gathering (at table) all rest found
+
+abbrev μ-loop : tie.MeasureT-loop
+μ-loop table all found₀ rest₀ found rest = rest
+
+loop-holds : tie.Need-loop-holds Inv-loop μ-loop
+loop-holds c = gathering-none _ (c .args .all) (search needs)
+
+lowest-member-requires : tie.Need-lowest-member-requires Inv-loop μ-loop
+lowest-member-requires c κs = search needs
+
+cast-r : tie.Need-cast-r Inv-loop μ-loop
+cast-r c = search needs
+
+mul-union : tie.Need-mul-union Inv-loop μ-loop
+mul-union c = search needs
+
+element-copy-out-union : tie.Need-element-copy-out-union Inv-loop μ-loop
+element-copy-out-union c = left-lowest (c .before .before .loop .inv .left) (c .before .loop-test .taken) (c .lowest-member .ensures)
+
+union-requires : tie.Need-union-requires Inv-loop μ-loop
+union-requires c κs = search needs
+
+without-lowest-requires : tie.Need-without-lowest-requires Inv-loop μ-loop
+without-lowest-requires c κs = search needs
+
+loop-less : tie.Need-loop-less Inv-loop μ-loop
+loop-less c =
+    let b = c .before .before .before .before in
+    left-falls (b .before .loop .inv .left) (b .loop-test .taken) (c .without-lowest .ensures)
+
+loop-again : tie.Need-loop-again Inv-loop μ-loop
+unfolding at
+loop-again c =
+    let b = c .before .before .before in
+    gathering-next (b .before .before .loop .inv) (b .before .loop-test .taken) (b .lowest-member .ensures) (c .without-lowest .ensures) (c .before .union .ensures)
+
+returns : tie.Need-returns Inv-loop μ-loop
+returns c = gathering-done (c .before .loop .inv) (c .loop-test .left)
+
+pub gathered-spec : {M : Type 1} → statement M
+gathered-spec =
+    tie.close
+    (tie.spec
+    Inv-loop
+    μ-loop
+    loop-holds
+    lowest-member-requires
+    cast-r
+    mul-union
+    element-copy-out-union
+    union-requires
+    without-lowest-requires
+    loop-less
+    loop-again
+    returns)

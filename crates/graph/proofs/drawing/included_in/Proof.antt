@@ -1,0 +1,81 @@
+-- `graph::drawing::included_in` meets its contract: the roles visited so far whose sets are strictly included are collected.
+-- Assumes nothing.
+use borrow.Author.Needs.{needs}
+use mathlib.Core.Path.{_∙_}
+use Rattle.sets.specs.Sets.{strictly-included}
+use Rattle.graph.specs.Tables.{at}
+use Rattle.graph.proofs.Loops.{left-lowest, left-falls, Collecting, collecting-none, collecting-next, collecting-done}
+use Rattle.graph.proofs.drawing.included_in.Statement.{statement}
+use Rattle.graph.proofs.drawing.included_in.Tie as tie
+
+abbrev Inv-loop : tie.InvT-loop
+Inv-loop all sets top found₀ rest₀ found rest = Collecting (λ r. strictly-included (at sets r) top) all rest found
+
+abbrev μ-loop : tie.MeasureT-loop
+μ-loop all sets top found₀ rest₀ found rest = rest
+
+loop-holds : tie.Need-loop-holds Inv-loop μ-loop
+loop-holds c = collecting-none _ (c .args .all) (search needs)
+
+lowest-member-requires : tie.Need-lowest-member-requires Inv-loop μ-loop
+lowest-member-requires c κs = search needs
+
+cast-r : tie.Need-cast-r Inv-loop μ-loop
+cast-r c = search needs
+
+mul-strictly-included : tie.Need-mul-strictly-included Inv-loop μ-loop
+mul-strictly-included c = search needs
+
+element-copy-out-strictly-included : tie.Need-element-copy-out-strictly-included Inv-loop μ-loop
+element-copy-out-strictly-included c = left-lowest (c .before .before .loop .inv .left) (c .before .loop-test .taken) (c .lowest-member .ensures)
+
+strictly-included-requires : tie.Need-strictly-included-requires Inv-loop μ-loop
+strictly-included-requires c κs = search needs
+
+single-requires : tie.Need-single-requires Inv-loop μ-loop
+single-requires c κs = search needs
+
+when-requires : tie.Need-when-requires Inv-loop μ-loop
+when-requires c κs = search needs
+
+union-requires : tie.Need-union-requires Inv-loop μ-loop
+union-requires c κs = search needs
+
+without-lowest-requires : tie.Need-without-lowest-requires Inv-loop μ-loop
+without-lowest-requires c κs = search needs
+
+loop-less : tie.Need-loop-less Inv-loop μ-loop
+loop-less c =
+    let b = c .before .before .before .before .before .before .before in
+    left-falls (b .before .loop .inv .left) (b .loop-test .taken) (c .without-lowest .ensures)
+
+loop-again : tie.Need-loop-again Inv-loop μ-loop
+unfolding at
+loop-again c =
+    let b = c .before .before .before .before in
+    let d = b .before .before in
+    collecting-next (d .before .before .loop .inv) (d .before .loop-test .taken) (d .lowest-member .ensures) (c .without-lowest .ensures)
+    (c .before .union .ensures ∙ rw (c .before .before .when .ensures, b .strictly-included .ensures, c .before .before .before .single .ensures))
+
+returns : tie.Need-returns Inv-loop μ-loop
+returns c = collecting-done (c .before .loop .inv) (c .loop-test .left)
+
+pub included-in-spec : {M : Type 1} → statement M
+included-in-spec =
+    tie.close
+    (tie.spec
+    Inv-loop
+    μ-loop
+    loop-holds
+    lowest-member-requires
+    cast-r
+    mul-strictly-included
+    element-copy-out-strictly-included
+    strictly-included-requires
+    single-requires
+    when-requires
+    union-requires
+    without-lowest-requires
+    loop-less
+    loop-again
+    returns)

@@ -1,0 +1,29 @@
+-- `graph::drawing::juniors_of` meets its contract: taking from the roles below s those below these leaves the immediate juniors.
+-- Assumes nothing.
+use borrow.Author.Needs.{needs}
+use mathlib.Core.Path.{_∙_}
+use Rattle.graph.specs.Reading.{drawn-from}
+use Rattle.graph.proofs.Drawings.{juniors-picked}
+use Rattle.graph.proofs.drawing.juniors_of.Statement.{statement}
+use Rattle.graph.proofs.drawing.juniors_of.Tie as tie
+
+cast-lower : tie.Need-cast-lower
+cast-lower c = search needs
+
+lower-requires : tie.Need-lower-requires
+lower-requires c κs = search needs
+
+all-lower-requires : tie.Need-all-lower-requires
+all-lower-requires c κs = search needs
+
+difference-requires : tie.Need-difference-requires
+difference-requires c κs = search needs
+
+returns : tie.Need-returns
+returns c =
+    let a = c .before .before .before .before .args in
+    c .difference .ensures ∙ rw (c .before .all-lower .ensures, c .before .before .lower .ensures) (juniors-picked (drawn-from (a .roles) (a .sets .now)) (a .s .0))
+
+pub juniors-of-spec : {M : Type 1} → statement M
+juniors-of-spec =
+    tie.close (tie.spec cast-lower lower-requires all-lower-requires difference-requires returns)

@@ -1,0 +1,95 @@
+-- `graph::refusing::offered_role` meets its contract: it searches the ordinary roles for one that holds both privileges.
+-- Assumes nothing.
+use borrow.Author.Needs.{needs}
+use mathlib.Core.Bool.{Bool}
+use mathlib.Core.List.{List}
+use mathlib.Core.Path.{_∙_, sym}
+use Prim.Native.Nat.{ℕ, _<_}
+use Rattle.sets.specs.Sets.{difference}
+use Rattle.sets.proofs.Laws.{difference-lt}
+use Rattle.graph.specs.Tables.{at}
+use Rattle.graph.specs.Graph.{role-count, effective}
+use Rattle.graph.specs.Conflicts.{holds-both}
+use Rattle.graph.specs.Refusing.{offered-role}
+use Rattle.graph.proofs.Searching.{Search, starts, visit-lt, hit, goes-on, falls, miss, among-ordinary}
+use Rattle.graph.proofs.refusing.offered_role.Statement.{statement}
+use Rattle.graph.proofs.refusing.offered_role.Tie as tie
+
+-- Entry r holds both a and b.
+abbrev both-at : List ℕ → ℕ → ℕ → ℕ → Bool
+both-at sets a b r = holds-both a b (at sets r)
+
+abbrev Inv-loop : tie.InvT-loop
+Inv-loop roles sets a b rest₀ rest = Search (both-at sets (a .0) (b .0)) (difference roles 3) rest
+
+abbrev μ-loop : tie.MeasureT-loop
+μ-loop roles sets a b rest₀ rest = rest
+
+difference-requires : tie.Need-difference-requires Inv-loop μ-loop
+difference-requires c κs = search needs
+
+loop-holds : tie.Need-loop-holds Inv-loop μ-loop
+loop-holds c = rw (c .difference .ensures) (starts _ _ (difference-lt role-count _ _ (search needs)))
+
+first-requires : tie.Need-first-requires Inv-loop μ-loop
+first-requires c κs = search needs
+
+role-lt : (c : tie.After-first Inv-loop μ-loop) → c .first .result < role-count
+role-lt c = visit-lt (c .before .before .loop .inv) (c .before .loop-test .taken) (c .first .ensures)
+
+cast-i : tie.Need-cast-i Inv-loop μ-loop
+cast-i c = let l = role-lt c in search needs
+
+mul-holds-both : tie.Need-mul-holds-both Inv-loop μ-loop
+mul-holds-both c = let l = role-lt c in search needs
+
+element-copy-out-holds-both : tie.Need-element-copy-out-holds-both Inv-loop μ-loop
+element-copy-out-holds-both c = role-lt c
+
+holds-both-requires : tie.Need-holds-both-requires Inv-loop μ-loop
+holds-both-requires c κs = search needs
+
+returns : tie.Need-returns Inv-loop μ-loop
+unfolding at effective offered-role
+returns c =
+    let b = c .before .before .before in
+    hit (b .before .before .loop .inv) (b .before .loop-test .taken) (b .first .ensures) (sym (c .before .holds-both .ensures) ∙ c .if1 .taken)
+    ∙ among-ordinary _ _
+
+without-lowest-requires : tie.Need-without-lowest-requires Inv-loop μ-loop
+without-lowest-requires c κs = search needs
+
+loop-less : tie.Need-loop-less Inv-loop μ-loop
+loop-less c =
+    let b = c .before .before .before .before in
+    falls (b .before .before .loop .inv) (b .before .loop-test .taken) (b .first .ensures) (c .without-lowest .ensures)
+
+loop-again : tie.Need-loop-again Inv-loop μ-loop
+unfolding at
+loop-again c =
+    let b = c .before .before .before .before in
+    goes-on (b .before .before .loop .inv) (b .before .loop-test .taken) (b .first .ensures) (c .without-lowest .ensures)
+    (sym (c .before .before .holds-both .ensures) ∙ c .before .if1 .left)
+
+returns-2 : tie.Need-returns-2 Inv-loop μ-loop
+unfolding at effective offered-role
+returns-2 c = miss (c .before .loop .inv) (c .loop-test .left) ∙ among-ordinary _ _
+
+pub offered-role-spec : {M : Type 1} → statement M
+offered-role-spec =
+    tie.close
+    (tie.spec
+    Inv-loop
+    μ-loop
+    difference-requires
+    loop-holds
+    first-requires
+    cast-i
+    mul-holds-both
+    element-copy-out-holds-both
+    holds-both-requires
+    returns
+    without-lowest-requires
+    loop-less
+    loop-again
+    returns-2)

@@ -1,0 +1,29 @@
+-- `graph::refusing::still_below` meets its contract: the code computes the test.
+-- Assumes nothing.
+use borrow.Author.Needs.{needs}
+use mathlib.Core.Path.{ap₂, _∙_}
+use Rattle.sets.specs.Sets.{included}
+use Rattle.graph.proofs.refusing.still_below.Statement.{statement}
+use Rattle.graph.proofs.refusing.still_below.Tie as tie
+
+cast-i : tie.Need-cast-i
+cast-i c = search needs
+
+cast-j : tie.Need-cast-j
+cast-j c = search needs
+
+entry-requires : tie.Need-entry-requires
+entry-requires c κs = search needs
+
+entry-requires-2 : tie.Need-entry-requires-2
+entry-requires-2 c κs = search needs
+
+included-requires : tie.Need-included-requires
+included-requires c κs = search needs
+
+returns : tie.Need-returns
+returns c = c .included .ensures ∙ ap₂ included (c .before .before .before .entry .ensures) (c .before .entry2 .ensures)
+
+pub still-below-spec : {M : Type 1} → statement M
+still-below-spec =
+    tie.close (tie.spec cast-i cast-j entry-requires entry-requires-2 included-requires returns)

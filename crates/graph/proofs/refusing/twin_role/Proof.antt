@@ -1,0 +1,95 @@
+-- `graph::refusing::twin_role` meets its contract: it searches the ordinary roles for one with a twin, which stands among those left.
+-- Assumes nothing.
+use borrow.Author.Needs.{needs}
+use mathlib.Core.Path.{_∙_, sym}
+use Prim.Native.Nat.{_<_}
+use Rattle.sets.specs.Sets.{difference}
+use Rattle.sets.proofs.Laws.{difference-lt}
+use Rattle.graph.specs.Tables.{at}
+use Rattle.graph.specs.Graph.{role-count, effective}
+use Rattle.graph.specs.Refusing.{twin-role}
+use Rattle.graph.specs.Reading.{drawn-from}
+use Rattle.graph.proofs.Searching.{Search, starts, visit-lt, hit, goes-on, falls, miss, among-ordinary, has-twin, twin-test}
+use Rattle.graph.proofs.refusing.twin_role.Statement.{statement}
+use Rattle.graph.proofs.refusing.twin_role.Tie as tie
+
+abbrev Inv-loop : tie.InvT-loop
+Inv-loop roles sets rest₀ rest = Search (has-twin (drawn-from roles sets)) (difference roles 3) rest
+
+abbrev μ-loop : tie.MeasureT-loop
+μ-loop roles sets rest₀ rest = rest
+
+difference-requires : tie.Need-difference-requires Inv-loop μ-loop
+difference-requires c κs = search needs
+
+loop-holds : tie.Need-loop-holds Inv-loop μ-loop
+loop-holds c = rw (c .difference .ensures) (starts _ _ (difference-lt role-count _ _ (search needs)))
+
+first-requires : tie.Need-first-requires Inv-loop μ-loop
+first-requires c κs = search needs
+
+role-lt : (c : tie.After-first Inv-loop μ-loop) → c .first .result < role-count
+role-lt c = visit-lt (c .before .before .loop .inv) (c .before .loop-test .taken) (c .first .ensures)
+
+cast-i : tie.Need-cast-i Inv-loop μ-loop
+cast-i c = let l = role-lt c in search needs
+
+without-lowest-requires : tie.Need-without-lowest-requires Inv-loop μ-loop
+without-lowest-requires c κs = search needs
+
+mul-has-set : tie.Need-mul-has-set Inv-loop μ-loop
+mul-has-set c = let l = role-lt (c .before) in search needs
+
+element-copy-out-has-set : tie.Need-element-copy-out-has-set Inv-loop μ-loop
+element-copy-out-has-set c = role-lt (c .before)
+
+has-set-requires : tie.Need-has-set-requires Inv-loop μ-loop
+has-set-requires c κs = search needs
+
+returns : tie.Need-returns Inv-loop μ-loop
+unfolding at effective twin-role
+returns c =
+    let b = c .before .before .before in
+    let s = b .before .before .before .loop .inv in
+    let some = b .before .before .loop-test .taken in
+    let e = b .before .first .ensures in
+    hit s some e (sym (twin-test _ s some e (b .without-lowest .ensures)) ∙ sym (c .before .has-set .ensures) ∙ c .if1 .taken)
+    ∙ among-ordinary _ _
+
+loop-less : tie.Need-loop-less Inv-loop μ-loop
+loop-less c =
+    let b = c .before .before .before in
+    falls (b .before .before .before .loop .inv) (b .before .before .loop-test .taken) (b .before .first .ensures) (b .without-lowest .ensures)
+
+loop-again : tie.Need-loop-again Inv-loop μ-loop
+unfolding at effective
+loop-again c =
+    let b = c .before .before .before in
+    let s = b .before .before .before .loop .inv in
+    let some = b .before .before .loop-test .taken in
+    let e = b .before .first .ensures in
+    let d = b .without-lowest .ensures in
+    goes-on s some e d (sym (twin-test _ s some e d) ∙ sym (c .before .has-set .ensures) ∙ c .if1 .left)
+
+returns-2 : tie.Need-returns-2 Inv-loop μ-loop
+unfolding twin-role
+returns-2 c = miss (c .before .loop .inv) (c .loop-test .left) ∙ among-ordinary _ _
+
+pub twin-role-spec : {M : Type 1} → statement M
+twin-role-spec =
+    tie.close
+    (tie.spec
+    Inv-loop
+    μ-loop
+    difference-requires
+    loop-holds
+    first-requires
+    cast-i
+    without-lowest-requires
+    mul-has-set
+    element-copy-out-has-set
+    has-set-requires
+    returns
+    loop-less
+    loop-again
+    returns-2)

@@ -1,0 +1,53 @@
+-- What the contracts of private functions speak of: drawings held in tables, and edges without a circle.
+use mathlib.Core.Path.{_≡_}
+use mathlib.Core.Bool.{Bool, false, not, _&&_, _||_}
+use mathlib.Core.List.{List}
+use Prim.Native.Nat.{ℕ, zero, suc, _<_, _≤_}
+use lib.ListN.{length}
+use lib.Dec.{T}
+use Rattle.sets.specs.Counting.{any}
+use Rattle.sets.specs.Sets.{empty, member}
+use Rattle.graph.specs.Tables.{at}
+use Rattle.graph.specs.Graph.{role-count, max-role, is-end}
+use Rattle.graph.specs.Drawing.{Drawing}
+use Rattle.graph.specs.Closing.{gathered}
+
+-- A drawing whose direct privileges and juniors stand in tables by role number.
+abbrev pub drawing-of : ℕ → List ℕ → List ℕ → Drawing
+drawing-of roles directs juniors = record { roles = roles; directs = at directs; joins = λ t r. member t (at juniors r) }
+
+-- A role of a drawing with the ordinary roles R.
+abbrev pub has-role : ℕ → ℕ → Bool
+has-role R r = is-end r || member r R
+
+-- Edges run between roles, none to MinRole, and a height rises along them and from ordinary roles to MaxRole.
+pub record JoinsLaid (R : ℕ) (joins : ℕ → ℕ → Bool) : Type 0 where
+  pub height : ℕ → ℕ
+  pub falls : (t r : ℕ) → T (joins t r) → height t < height r
+  pub top : (t : ℕ) → T (member t R) → 2 ≤ t → height t < height max-role
+  pub joins-from : (t r : ℕ) → T (joins t r) → T (has-role R t)
+  pub joins-to : (t r : ℕ) → T (joins t r) → T (has-role R r) × (1 ≤ r)
+
+-- ---- closing under way
+-- Every way down from r along juniors has at most n roles.
+unfoldable pub ends : List ℕ → ℕ → ℕ → Bool
+ends juniors zero r = false
+ends juniors (suc n) r = not (any role-count (λ t. member t (at juniors r) && not (ends juniors n t)))
+
+-- Going down along juniors ends, so that it never comes back to a role.
+abbrev pub Ending : List ℕ → Type 0
+Ending juniors = (r : ℕ) → r < role-count → T (ends juniors role-count r)
+
+-- Going down along juniors ends, and a role that is not present has no juniors.
+pub record Acyclic (present : ℕ) (juniors : List ℕ) : Type 0 where
+  pub ending : Ending juniors
+  pub outside : (r : ℕ) → r < role-count → (T (member r present) → ⊥) → at juniors r ≡ empty
+
+-- The set that closing gives role r, from a table of direct sets and a table of juniors.
+unfoldable pub closed-set : List ℕ → List ℕ → ℕ → ℕ
+closed-set directs juniors = gathered (at directs) (λ t r. member t (at juniors r)) role-count
+
+-- A table while closing is under way: it has an entry for each role, and the entry of each role that is done is its closed set.
+pub record Memo (directs juniors : List ℕ) (done : ℕ) (sets : List ℕ) : Type 0 where
+  pub whole : length sets ≡ role-count
+  pub right : (r : ℕ) → T (member r done) → at sets r ≡ closed-set directs juniors r

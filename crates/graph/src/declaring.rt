@@ -1,0 +1,150 @@
+// Conflicts of two privileges: whether one is declared, and kinds 8 and 9, which declare and lift one.
+ghost use mathlib.Core.Path.{_≡_};
+ghost use mathlib.Core.Bool.{cond};
+ghost use mathlib.Core.List.{[], _∷_};
+ghost use Prim.Native.Nat.{min, max};
+ghost use lib.Dec.{ltb};
+ghost use Rattle.graph.specs.Graph.{privilege-count};
+ghost use Rattle.graph.specs.Conflicts as spec;
+ghost use Rattle.graph.specs.Refusing.{no-privilege-number, pair-of-one, verdict, keep, declare-checks, lift-checks};
+ghost use Rattle.graph.specs.Reading.{graph-of, read-graph, read-verdict, read-outcome};
+use super::entries::entry;
+use super::refusing::offered_role;
+use super::refusing::refuse;
+use crate::Graph;
+use crate::Outcome;
+use crate::Privilege;
+use crate::Verdict;
+
+// The lower of two privileges.
+fn lower_of(a: Privilege, b: Privilege) -> usize
+    ensures { λ r. ⌜ r ≡ min (a .0) (b .0) ⌝ }
+{
+    if a.0 < b.0 {
+        a.0 as usize
+    } else {
+        b.0 as usize
+    }
+}
+
+// The higher of two privileges.
+fn higher_of(a: Privilege, b: Privilege) -> usize
+    ensures { λ r. ⌜ r ≡ max (a .0) (b .0) ⌝ }
+{
+    if a.0 < b.0 {
+        b.0 as usize
+    } else {
+        a.0 as usize
+    }
+}
+
+// Whether the conflict of a and b is declared.
+pub fn is_declared(conflicts: &[u64; 64], a: Privilege, b: Privilege) -> bool
+    ensures { λ r. ⌜ r ≡ spec.declared (now (conflicts .entry)) (a .0) (b .0) ⌝ }
+{
+    let lower = lower_of(a, b);
+    let higher = higher_of(a, b);
+    lower < higher && sets::member(higher, entry(conflicts, lower))
+}
+
+// Refusals 2 and 4: a number that is no privilege's, and a conflict of a privilege with itself.
+fn judge_pair(a: Privilege, b: Privilege) -> Verdict
+    ensures { λ r. ⌜ read-verdict r ≡ verdict (no-privilege-number (a .0) ∷ no-privilege-number (b .0) ∷ pair-of-one (a .0) (b .0) ∷ []) ⌝ }
+{
+    if a.0 >= 64 {
+        return refuse(2, a.0);
+    }
+    if b.0 >= 64 {
+        return refuse(2, b.0);
+    }
+    if a.0 == b.0 {
+        return refuse(4, a.0);
+    }
+    Verdict::Passed
+}
+
+// The refusals of kind 8.
+pub fn judge_declare<'a>(
+    roles: u64,
+    sets: &'a [u64; 64],
+    conflicts: &'a [u64; 64],
+    a: Privilege,
+    b: Privilege,
+) -> Verdict
+    ensures { λ r. ⌜ read-verdict r ≡ verdict (declare-checks (graph-of roles (now (sets .entry)) (now (conflicts .entry))) (a .0) (b .0)) ⌝ }
+{
+    let pair = judge_pair(a, b);
+    let Verdict::Passed = pair else {
+        return pair;
+    };
+    if is_declared(conflicts, a, b) {
+        return refuse(22, a.0);
+    }
+    let place = offered_role(roles, sets, a, b);
+    if place < 64 {
+        return refuse(29, place);
+    }
+    Verdict::Passed
+}
+
+// The refusals of kind 9.
+pub fn judge_lift(conflicts: &[u64; 64], a: Privilege, b: Privilege) -> Verdict
+    ensures { λ r. ⌜ read-verdict r ≡ verdict (lift-checks (graph-of 0 [] (now (conflicts .entry))) (a .0) (b .0)) ⌝ }
+{
+    let pair = judge_pair(a, b);
+    let Verdict::Passed = pair else {
+        return pair;
+    };
+    if is_declared(conflicts, a, b) {
+        Verdict::Passed
+    } else {
+        refuse(23, a.0)
+    }
+}
+
+// Puts the conflict of a and b in, where both are privileges.
+pub fn declared(conflicts: &mut [u64; 64], a: Privilege, b: Privilege)
+    ensures { λ _. let C = now (conflicts .entry) in ⌜ now (conflicts .exit) ≡ cond (ltb (max (a .0) (b .0)) privilege-count) (spec.declare C (a .0) (b .0)) C ⌝ }
+{
+    let lower = lower_of(a, b);
+    let higher = higher_of(a, b);
+    if higher < 64 {
+        conflicts[lower] = sets::union(conflicts[lower], sets::single(higher));
+    }
+}
+
+// Takes the conflict of a and b out.
+pub fn lifted(conflicts: &mut [u64; 64], a: Privilege, b: Privilege)
+    ensures { λ _. ⌜ now (conflicts .exit) ≡ spec.lift (now (conflicts .entry)) (a .0) (b .0) ⌝ }
+{
+    let lower = lower_of(a, b);
+    let higher = higher_of(a, b);
+    let partners = entry(conflicts, lower);
+    if lower < 64 {
+        conflicts[lower] = sets::difference(partners, sets::single(higher));
+    }
+}
+
+// Kind 8: the conflict of a and b is declared.
+pub fn declare(mut graph: Graph, a: Privilege, b: Privilege) -> Outcome
+    ensures { λ r. let g = read-graph graph in ⌜ read-outcome r ≡ keep (verdict (declare-checks g (a .0) (b .0))) g (graph-of (graph .roles) (graph .sets) (spec.declare (graph .conflicts) (a .0) (b .0))) ⌝ }
+{
+    let verdict = judge_declare(graph.roles, &graph.sets, &graph.conflicts, a, b);
+    let Verdict::Passed = verdict else {
+        return Outcome { verdict, graph };
+    };
+    declared(&mut graph.conflicts, a, b);
+    Outcome { verdict, graph }
+}
+
+// Kind 9: the conflict of a and b is lifted.
+pub fn lift(mut graph: Graph, a: Privilege, b: Privilege) -> Outcome
+    ensures { λ r. let g = read-graph graph in ⌜ read-outcome r ≡ keep (verdict (lift-checks g (a .0) (b .0))) g (graph-of (graph .roles) (graph .sets) (spec.lift (graph .conflicts) (a .0) (b .0))) ⌝ }
+{
+    let verdict = judge_lift(&graph.conflicts, a, b);
+    let Verdict::Passed = verdict else {
+        return Outcome { verdict, graph };
+    };
+    lifted(&mut graph.conflicts, a, b);
+    Outcome { verdict, graph }
+}

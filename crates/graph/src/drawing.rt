@@ -1,0 +1,236 @@
+// Redrawing: the order, the edges and the direct privileges that the roles present and their effective sets define.
+ghost use mathlib.Core.Path.{_≡_};
+ghost use mathlib.Core.Bool.{_&&_, cond};
+ghost use Rattle.sets.specs.Counting.{sum};
+ghost use Rattle.sets.specs.Sets.{member, union, difference, strictly-included, size, collect, gather};
+ghost use Rattle.graph.specs.Tables.{at, table};
+ghost use Rattle.graph.specs.Graph.{role-count};
+ghost use Rattle.graph.specs.Drawing.{below, edge, juniors, seniors, edge-count, direct, roles-below, roles-above, direct-table};
+ghost use Rattle.graph.specs.Reading.{drawn-from};
+use crate::Role;
+use crate::entries::copied;
+use crate::entries::entry;
+
+// The ordinary roles: those present without the numbers of the end roles.
+pub fn ordinary_roles(roles: u64) -> u64
+    ensures { λ v. ⌜ v ≡ difference roles 3 ⌝ }
+{
+    sets::difference(roles, 3)
+}
+
+// The roles that can lie above another: the ordinary ones and MaxRole.
+pub fn senior_roles(roles: u64) -> u64
+    ensures { λ v. ⌜ v ≡ union (difference roles 3) 2 ⌝ }
+{
+    sets::union(ordinary_roles(roles), 2)
+}
+
+// The roles of `all` whose sets are strictly included in `top`.
+fn included_in(all: u64, sets: &[u64; 64], top: u64) -> u64
+    ensures { λ v. ⌜ v ≡ collect role-count (λ r. member r all && strictly-included (at (now (sets .entry)) r) top) ⌝ }
+{
+    let mut found: u64 = 0;
+    let mut rest = all;
+    while rest != 0 {
+        let r = sets::lowest_member(rest) as usize;
+        let on = sets::strictly_included(sets[r], top);
+        found = sets::union(found, sets::when(on, sets::single(r)));
+        rest = sets::without_lowest(rest);
+    }
+    found
+}
+
+// The roles below s: none for MinRole and for a number that is no role's.
+pub fn lower(roles: u64, sets: &[u64; 64], s: usize) -> u64
+    ensures { λ v. ⌜ v ≡ roles-below (drawn-from roles (now (sets .entry))) s ⌝ }
+{
+    let ordinary = ordinary_roles(roles);
+    if s == 1 {
+        return sets::union(ordinary, 1);
+    }
+    if sets::member(s, ordinary) {
+        return sets::union(included_in(ordinary, sets, entry(sets, s)), 1);
+    }
+    0
+}
+
+// By role number, the roles below each role.
+fn lowers(roles: u64, sets: &[u64; 64]) -> [u64; 64]
+    ensures { λ v. ⌜ v ≡ table role-count (roles-below (drawn-from roles (now (sets .entry)))) ⌝ }
+{
+    let mut found = [0u64; 64];
+    let mut rest = senior_roles(roles);
+    while rest != 0 {
+        let s = sets::lowest_member(rest) as usize;
+        let under = lower(roles, sets, s);
+        found[s] = under;
+        rest = sets::without_lowest(rest);
+    }
+    found
+}
+
+// The union of a table's entries at the members of `all`.
+fn gathered(table: &[u64; 64], all: u64) -> u64
+    ensures { λ v. ⌜ v ≡ gather role-count (λ r. member r all) (at (now (table .entry))) ⌝ }
+{
+    let mut found: u64 = 0;
+    let mut rest = all;
+    while rest != 0 {
+        let r = sets::lowest_member(rest) as usize;
+        found = sets::union(found, table[r]);
+        rest = sets::without_lowest(rest);
+    }
+    found
+}
+
+// The direct sets of the roles in `all`, by a table of their immediate juniors; any other role keeps its set.
+pub fn direct_sets(all: u64, sets: &[u64; 64], juniors: &[u64; 64]) -> [u64; 64]
+    ensures { λ v. ⌜ v ≡ direct-table all (now (sets .entry)) (now (juniors .entry)) ⌝ }
+{
+    let mut direct = copied(sets);
+    let mut rest = all;
+    while rest != 0 {
+        let s = sets::lowest_member(rest) as usize;
+        let held = gathered(sets, juniors[s]);
+        direct[s] = sets::difference(sets[s], held);
+        rest = sets::without_lowest(rest);
+    }
+    direct
+}
+
+// By role number, the immediate juniors of each role: the roles below it without those below these, taken as direct sets are.
+pub fn draw(roles: u64, sets: &[u64; 64]) -> [u64; 64]
+    ensures { λ v. ⌜ v ≡ table role-count (juniors (drawn-from roles (now (sets .entry)))) ⌝ }
+{
+    let lower = lowers(roles, sets);
+    direct_sets(senior_roles(roles), &lower, &lower)
+}
+
+// The sizes of a table's entries at the members of `all`, together.
+fn total_size(table: &[u64; 64], all: u64) -> u32
+    ensures { λ v. ⌜ v ≡ sum role-count (λ s. cond (member s all) (size role-count (at (now (table .entry)) s)) 0) ⌝ }
+{
+    let mut total: u32 = 0;
+    let mut rest = all;
+    while rest != 0 {
+        let s = sets::lowest_member(rest) as usize;
+        total = total + sets::size(table[s]);
+        rest = sets::without_lowest(rest);
+    }
+    total
+}
+
+// How many edges are drawn.
+pub fn edge_count(roles: u64, sets: &[u64; 64]) -> u32
+    ensures { λ v. ⌜ v ≡ edge-count (drawn-from roles (now (sets .entry))) ⌝ }
+{
+    let juniors = draw(roles, sets);
+    total_size(&juniors, senior_roles(roles))
+}
+
+// Whether the role r lies below s.
+fn lies_below(roles: u64, sets: &[u64; 64], r: usize, s: usize) -> bool
+    ensures { λ v. ⌜ v ≡ below (drawn-from roles (now (sets .entry))) r s ⌝ }
+{
+    let high = sets::member(s, senior_roles(roles));
+    let low = sets::member(r, sets::union(ordinary_roles(roles), 1));
+    let strict = sets::strictly_included(entry(sets, r), entry(sets, s));
+    high & (low & ((s == 1) | ((r == 0) | strict)))
+}
+
+// The roles of `all` that lie above r.
+fn above(roles: u64, sets: &[u64; 64], all: u64, r: usize) -> u64
+    ensures { λ v. ⌜ v ≡ collect role-count (λ s. member s all && below (drawn-from roles (now (sets .entry))) r s) ⌝ }
+{
+    let mut found: u64 = 0;
+    let mut rest = all;
+    while rest != 0 {
+        let s = sets::lowest_member(rest) as usize;
+        let on = lies_below(roles, sets, r, s);
+        found = sets::union(found, sets::when(on, sets::single(s)));
+        rest = sets::without_lowest(rest);
+    }
+    found
+}
+
+// The roles above r.
+fn upper(roles: u64, sets: &[u64; 64], r: usize) -> u64
+    ensures { λ v. ⌜ v ≡ roles-above (drawn-from roles (now (sets .entry))) r ⌝ }
+{
+    above(roles, sets, senior_roles(roles), r)
+}
+
+// Whether the role r lies below s.
+pub fn is_below(roles: u64, sets: &[u64; 64], r: Role, s: Role) -> bool
+    ensures { λ v. ⌜ v ≡ below (drawn-from roles (now (sets .entry))) (r .0) (s .0) ⌝ }
+{
+    lies_below(roles, sets, r.0 as usize, s.0 as usize)
+}
+
+// Whether an edge is drawn from r to s: r is below s, and no role lies between.
+pub fn is_edge(roles: u64, sets: &[u64; 64], r: Role, s: Role) -> bool
+    ensures { λ v. ⌜ v ≡ edge (drawn-from roles (now (sets .entry))) (r .0) (s .0) ⌝ }
+{
+    let junior = r.0 as usize;
+    let under = lower(roles, sets, s.0 as usize);
+    sets::member(junior, under) & sets::is_empty(above(roles, sets, under, junior))
+}
+
+// The roles below some member of `all`.
+fn all_lower(roles: u64, sets: &[u64; 64], all: u64) -> u64
+    ensures { λ v. ⌜ v ≡ gather role-count (λ s. member s all) (roles-below (drawn-from roles (now (sets .entry)))) ⌝ }
+{
+    let mut found: u64 = 0;
+    let mut rest = all;
+    while rest != 0 {
+        let s = sets::lowest_member(rest) as usize;
+        found = sets::union(found, lower(roles, sets, s));
+        rest = sets::without_lowest(rest);
+    }
+    found
+}
+
+// The roles above some member of `all`.
+fn all_upper(roles: u64, sets: &[u64; 64], all: u64) -> u64
+    ensures { λ v. ⌜ v ≡ gather role-count (λ r. member r all) (roles-above (drawn-from roles (now (sets .entry)))) ⌝ }
+{
+    let mut found: u64 = 0;
+    let mut rest = all;
+    while rest != 0 {
+        let r = sets::lowest_member(rest) as usize;
+        found = sets::union(found, upper(roles, sets, r));
+        rest = sets::without_lowest(rest);
+    }
+    found
+}
+
+// The immediate juniors of s: the roles below it that lie below none of these.
+pub fn juniors_of(roles: u64, sets: &[u64; 64], s: Role) -> u64
+    ensures { λ v. ⌜ v ≡ juniors (drawn-from roles (now (sets .entry))) (s .0) ⌝ }
+{
+    let under = lower(roles, sets, s.0 as usize);
+    sets::difference(under, all_lower(roles, sets, under))
+}
+
+// The immediate seniors of r: the roles above it that lie above none of these.
+pub fn seniors_of(roles: u64, sets: &[u64; 64], r: Role) -> u64
+    ensures { λ v. ⌜ v ≡ seniors (drawn-from roles (now (sets .entry))) (r .0) ⌝ }
+{
+    let over = upper(roles, sets, r.0 as usize);
+    sets::difference(over, all_upper(roles, sets, over))
+}
+
+// The effective privileges of s.
+pub fn effective_of(sets: &[u64; 64], s: Role) -> u64
+    ensures { λ v. ⌜ v ≡ at (now (sets .entry)) (s .0) ⌝ }
+{
+    entry(sets, s.0 as usize)
+}
+
+// The direct privileges of s: its effective ones that no immediate junior has.
+pub fn direct_of(roles: u64, sets: &[u64; 64], s: Role) -> u64
+    ensures { λ v. ⌜ v ≡ direct (drawn-from roles (now (sets .entry))) (s .0) ⌝ }
+{
+    let held = gathered(sets, juniors_of(roles, sets, s));
+    sets::difference(effective_of(sets, s), held)
+}

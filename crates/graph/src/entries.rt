@@ -1,0 +1,65 @@
+// Tables of sets: one entry read, and entries changed or looked through for each member of a set of roles.
+ghost use mathlib.Core.Path.{_≡_};
+ghost use mathlib.Core.Bool.{_&&_};
+ghost use lib.ListN.{length};
+ghost use Rattle.sets.specs.Sets.{member, union, difference, when, collect};
+ghost use Rattle.graph.specs.Tables as spec;
+ghost use Rattle.graph.specs.Graph.{role-count};
+
+// Entry n of a table; beyond its end the empty set.
+pub fn entry(table: &[u64], n: usize) -> u64
+    ensures { λ v. ⌜ v ≡ spec.at (now (table .entry)) n ⌝ }
+{
+    if n < table.len() { table[n] } else { 0 }
+}
+
+// The table itself, with its length.
+pub fn copied(table: &[u64; 64]) -> [u64; 64]
+    ensures { λ v. ⌜ (v ≡ now (table .entry)) × (length v ≡ 64) ⌝ }
+{
+    let _whole = &table[..];
+    *table
+}
+
+// Joins s to the entry of each member of into.
+pub fn put_all(table: &mut [u64; 64], into: u64, s: u64)
+    ensures { λ _. ⌜ now (table .exit) ≡ spec.table role-count (λ r. union (spec.at (now (table .entry)) r) (when (member r into) s)) ⌝ }
+{
+    *table = copied(table);
+    let mut rest = into;
+    while rest != 0 {
+        let r = sets::lowest_member(rest) as usize;
+        table[r] = sets::union(table[r], s);
+        rest = sets::without_lowest(rest);
+    }
+}
+
+// Takes the members of s out of the entry of each member of from.
+pub fn take_all(table: &mut [u64; 64], from: u64, s: u64)
+    ensures { λ _. ⌜ now (table .exit) ≡ spec.table role-count (λ r. difference (spec.at (now (table .entry)) r) (when (member r from) s)) ⌝ }
+{
+    *table = copied(table);
+    let mut rest = from;
+    while rest != 0 {
+        let r = sets::lowest_member(rest) as usize;
+        table[r] = sets::difference(table[r], s);
+        rest = sets::without_lowest(rest);
+    }
+}
+
+// The roles present that have a among their juniors.
+pub fn seniors_in(present: u64, juniors: &[u64; 64], a: usize) -> u64
+    ensures { λ r. ⌜ r ≡ collect role-count (λ r. member r present && member a (spec.at (now (juniors .entry)) r)) ⌝ }
+{
+    let mut seniors = 0u64;
+    let mut rest = present;
+    while rest != 0 {
+        let r = sets::lowest_member(rest) as usize;
+        seniors = sets::union(
+            seniors,
+            sets::when(sets::member(a, juniors[r]), sets::single(r)),
+        );
+        rest = sets::without_lowest(rest);
+    }
+    seniors
+}

@@ -1,0 +1,235 @@
+// The searches behind the refusals: each gives the lowest role that its refusal names, and 64 where there is none.
+ghost use mathlib.Core.Path.{_≡_};
+ghost use mathlib.Core.Bool.{_&&_, not};
+ghost use mathlib.Core.List.{[], _++_};
+ghost use lib.Dec.{eqb};
+ghost use Rattle.sets.specs.Counting.{any, lowest};
+ghost use Rattle.sets.specs.Sets.{member, included, lowest-member};
+ghost use Rattle.graph.specs.Tables.{at};
+ghost use Rattle.graph.specs.Graph.{role-count, is-end, present};
+ghost use Rattle.graph.specs.Conflicts.{holds-both, holds-pair};
+ghost use Rattle.graph.specs.Refusing.{at-or-below, empty-role, twin-role, pair-role, offered-role, refused, verdict, still-below, closed-checks};
+ghost use Rattle.graph.specs.Reading.{drawn-from, graph-of, read-verdict, read-change};
+use super::drawing::lower;
+use super::entries::entry;
+use crate::Change;
+use crate::Privilege;
+use crate::Refusal;
+use crate::Role;
+use crate::Verdict;
+
+// MinRole and MaxRole, as a set.
+const ENDS: u64 = 3;
+
+// The lowest role of a set; 64 for the empty set.
+fn first(s: u64) -> u8
+    ensures { λ r. ⌜ r ≡ lowest-member role-count s ⌝ }
+{
+    sets::lowest_member(s) as u8
+}
+
+// The lowest ordinary role whose set is empty.
+pub fn empty_role(roles: u64, sets: &[u64; 64]) -> u8
+    ensures { λ r. ⌜ r ≡ lowest role-count (empty-role (drawn-from roles (now (sets .entry)))) ⌝ }
+{
+    let mut rest = sets::difference(roles, ENDS);
+    while rest != 0 {
+        let r = first(rest);
+        let i = r as usize;
+        if sets[i] == 0 {
+            return r;
+        }
+        rest = sets::without_lowest(rest);
+    }
+    64
+}
+
+// Whether some role among these has the set s.
+fn has_set(among: u64, sets: &[u64; 64], s: u64) -> bool
+    ensures { λ r. ⌜ r ≡ any role-count (λ n. member n among && eqb (at (now (sets .entry)) n) s) ⌝ }
+{
+    let mut rest = among;
+    while rest != 0 {
+        let r = first(rest);
+        let i = r as usize;
+        if sets[i] == s {
+            return true;
+        }
+        rest = sets::without_lowest(rest);
+    }
+    false
+}
+
+// The lowest ordinary role that has a twin: its twin then is a higher role.
+pub fn twin_role(roles: u64, sets: &[u64; 64]) -> u8
+    ensures { λ r. ⌜ r ≡ lowest role-count (twin-role (drawn-from roles (now (sets .entry)))) ⌝ }
+{
+    let mut rest = sets::difference(roles, ENDS);
+    while rest != 0 {
+        let r = first(rest);
+        let i = r as usize;
+        rest = sets::without_lowest(rest);
+        if has_set(rest, sets, sets[i]) {
+            return r;
+        }
+    }
+    64
+}
+
+// Whether a set holds both privileges of some declared conflict: one of them is the lower.
+pub fn holds_pair(conflicts: &[u64; 64], s: u64) -> bool
+    ensures { λ r. ⌜ r ≡ holds-pair (now (conflicts .entry)) s ⌝ }
+{
+    let mut rest = s;
+    while rest != 0 {
+        let p = first(rest);
+        let i = p as usize;
+        rest = sets::without_lowest(rest);
+        if rest & conflicts[i] != 0 {
+            return true;
+        }
+    }
+    false
+}
+
+// The lowest ordinary role that holds both privileges of some declared conflict.
+pub fn pair_role<'a>(roles: u64, sets: &'a [u64; 64], conflicts: &'a [u64; 64]) -> u8
+    ensures { λ r. ⌜ r ≡ lowest role-count (pair-role (graph-of roles (now (sets .entry)) (now (conflicts .entry)))) ⌝ }
+{
+    let mut place: u8 = 64;
+    let mut rest = sets::difference(roles, ENDS);
+    'roles: while rest != 0 {
+        let r = first(rest);
+        let i = r as usize;
+        let mut left = entry(sets, i);
+        while left != 0 {
+            let p = first(left);
+            let j = p as usize;
+            left = sets::without_lowest(left);
+            if left & conflicts[j] != 0 {
+                place = r;
+                break 'roles;
+            }
+        }
+        rest = sets::without_lowest(rest);
+    }
+    place
+}
+
+// Whether a set holds both a and b.
+fn holds_both(a: Privilege, b: Privilege, s: u64) -> bool
+    ensures { λ r. ⌜ r ≡ holds-both (a .0) (b .0) s ⌝ }
+{
+    let i = a.0 as usize;
+    let j = b.0 as usize;
+    sets::member(i, s) && sets::member(j, s)
+}
+
+// The lowest ordinary role that holds both privileges of the pair offered.
+pub fn offered_role(roles: u64, sets: &[u64; 64], a: Privilege, b: Privilege) -> u8
+    ensures { λ r. ⌜ r ≡ lowest role-count (offered-role (drawn-from roles (now (sets .entry))) (a .0) (b .0)) ⌝ }
+{
+    let mut rest = sets::difference(roles, ENDS);
+    while rest != 0 {
+        let r = first(rest);
+        let i = r as usize;
+        if holds_both(a, b, sets[i]) {
+            return r;
+        }
+        rest = sets::without_lowest(rest);
+    }
+    64
+}
+
+// The lowest end role of a set.
+pub fn end_in(s: u64) -> u8
+    ensures { λ r. ⌜ r ≡ lowest role-count (λ n. is-end n && member n s) ⌝ }
+{
+    first(sets::intersection(ENDS, s))
+}
+
+// The lowest role of a set that is absent.
+pub fn absent_in(roles: u64, s: u64) -> u8
+    ensures { λ r. ⌜ r ≡ lowest role-count (λ n. member n s && not (present (drawn-from roles []) n)) ⌝ }
+{
+    first(sets::difference(s, sets::union(ENDS, roles)))
+}
+
+// Whether some senior is j or lies below it.
+fn circle_at(roles: u64, sets: &[u64; 64], seniors: u64, j: usize) -> bool
+    ensures { λ r. ⌜ r ≡ any role-count (λ s. member s seniors && at-or-below (drawn-from roles (now (sets .entry))) s j) ⌝ }
+{
+    let under = sets::union(lower(roles, sets, j), sets::single(j));
+    sets::intersection(under, seniors) != 0
+}
+
+// The lowest junior that some senior is or lies below.
+pub fn circle_in(roles: u64, sets: &[u64; 64], juniors: u64, seniors: u64) -> u8
+    ensures { λ r. ⌜ r ≡ lowest role-count (λ j. member j juniors && any role-count (λ s. member s seniors && at-or-below (drawn-from roles (now (sets .entry))) s j)) ⌝ }
+{
+    let mut rest = juniors;
+    while rest != 0 {
+        let j = first(rest);
+        let i = j as usize;
+        if circle_at(roles, sets, seniors, i) {
+            return j;
+        }
+        rest = sets::without_lowest(rest);
+    }
+    64
+}
+
+// A refusal as a verdict.
+pub fn refuse(number: u8, place: u8) -> Verdict
+    ensures { λ r. ⌜ read-verdict r ≡ refused number place ⌝ }
+{
+    Verdict::Refused(Refusal { number, place })
+}
+
+// Refusals 27 to 29 of a graph after closing.
+fn judge_sets<'a>(roles: u64, sets: &'a [u64; 64], conflicts: &'a [u64; 64]) -> Verdict
+    ensures { λ r. ⌜ read-verdict r ≡ verdict (closed-checks (graph-of roles (now (sets .entry)) (now (conflicts .entry)))) ⌝ }
+{
+    let empty = empty_role(roles, sets);
+    if empty < 64 {
+        return refuse(27, empty);
+    }
+    let twin = twin_role(roles, sets);
+    if twin < 64 {
+        return refuse(28, twin);
+    }
+    let pair = pair_role(roles, sets, conflicts);
+    if pair < 64 {
+        return refuse(29, pair);
+    }
+    Verdict::Passed
+}
+
+// Whether a's set is included in b's.
+fn still_below(sets: &[u64; 64], a: Role, b: Role) -> bool
+    ensures { λ r. ⌜ r ≡ included (at (now (sets .entry)) (a .0)) (at (now (sets .entry)) (b .0)) ⌝ }
+{
+    let i = a.0 as usize;
+    let j = b.0 as usize;
+    sets::included(entry(sets, i), entry(sets, j))
+}
+
+// Refusals 26 to 29: those of a graph after a change and closing.
+pub fn judge_closed<'a>(
+    roles: u64,
+    sets: &'a [u64; 64],
+    conflicts: &'a [u64; 64],
+    change: Change,
+) -> Verdict
+    ensures { λ r. let h = graph-of roles (now (sets .entry)) (now (conflicts .entry)) in ⌜ read-verdict r ≡ verdict (still-below h (read-change change) ++ closed-checks h) ⌝ }
+{
+    match change {
+        Change::RemoveEdge(a, b) => {
+            if still_below(sets, a, b) {
+                return refuse(26, b.0);
+            }
+            judge_sets(roles, sets, conflicts)
+        }
+        _ => judge_sets(roles, sets, conflicts),
+    }
+}
