@@ -15,7 +15,14 @@ pub mod SaveLoad
 pub mod LoadFacts
 pub mod LoadSave
 pub mod LoadKeeps
-pub mod Saving
+pub mod SaveFacts
 pub mod LoadRefusals
 pub mod ListTheorem
+pub mod Words
+pub mod Decoding
+pub mod Digits
+pub mod Putting
+pub mod Writing
+pub mod MemberEntries
+pub mod SaveParts
 pub mod Examples

@@ -6,6 +6,9 @@ pub mod Images
 pub mod Saving
 pub mod Lists
 pub mod Tape
+pub mod Reading
+pub mod Working
+pub mod ImageWork
 pub mod Invariants
 pub mod ListTheorem
 pub mod Computes

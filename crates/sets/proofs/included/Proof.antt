@@ -6,7 +6,7 @@ use Rattle.sets.proofs.included.Statement.{statement}
 use Rattle.sets.proofs.included.Tie as tie
 
 intersection-requires : tie.Need-intersection-requires
-intersection-requires c κs = search needs
+intersection-requires c κs = tt
 
 returns : tie.Need-returns
 unfolding included intersection

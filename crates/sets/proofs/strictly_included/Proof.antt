@@ -6,7 +6,7 @@ use Rattle.sets.proofs.strictly_included.Statement.{statement}
 use Rattle.sets.proofs.strictly_included.Tie as tie
 
 included-requires : tie.Need-included-requires
-included-requires c κs = search needs
+included-requires c κs = tt
 
 returns : tie.Need-returns
 unfolding strictly-included

@@ -12,13 +12,13 @@ cast-i : tie.Need-cast-i
 cast-i c = search needs
 
 draw-requires : tie.Need-draw-requires
-draw-requires c κs = search needs
+draw-requires c κs = tt
 
 senior-roles-requires : tie.Need-senior-roles-requires
-senior-roles-requires c κs = search needs
+senior-roles-requires c κs = tt
 
 direct-sets-requires : tie.Need-direct-sets-requires
-direct-sets-requires c κs = search needs
+direct-sets-requires c κs = tt
 
 mul-union : tie.Need-mul-union
 mul-union c = search needs
@@ -29,7 +29,7 @@ array-read-union c =
     add-lt (c .before .before .before .before .before .args .roles) (search needs) (c .before .before .before .before .before .args .sets .now) (c .before .before .before .before .before .args .a .0) (c .before .before .before .before .before .args .own) (c .before .before .before .before .before .pre)
 
 union-requires : tie.Need-union-requires
-union-requires c κs = search needs
+union-requires c κs = tt
 
 mul-directs : tie.Need-mul-directs
 mul-directs c = search needs
@@ -40,10 +40,10 @@ array-write-directs c =
     add-lt (c .before .before .before .before .before .before .args .roles) (search needs) (c .before .before .before .before .before .before .args .sets .now) (c .before .before .before .before .before .before .args .a .0) (c .before .before .before .before .before .before .args .own) (c .before .before .before .before .before .before .pre)
 
 single-requires : tie.Need-single-requires
-single-requires c κs = search needs
+single-requires c κs = tt
 
 union-requires-2 : tie.Need-union-requires-2
-union-requires-2 c κs = search needs
+union-requires-2 c κs = tt
 
 closed-requires : tie.Need-closed-requires
 unfolding at

@@ -8,19 +8,19 @@ use Rattle.graph.proofs.changing.closed.Statement.{statement}
 use Rattle.graph.proofs.changing.closed.Tie as tie
 
 ordinary-roles-requires : tie.Need-ordinary-roles-requires
-ordinary-roles-requires c κs = search needs
+ordinary-roles-requires c κs = tt
 
 array-read-union : tie.Need-array-read-union
 array-read-union c = search needs
 
 union-requires : tie.Need-union-requires
-union-requires c κs = search needs
+union-requires c κs = tt
 
 array-write-counted : tie.Need-array-write-counted
 array-write-counted c = search needs
 
 senior-roles-requires : tie.Need-senior-roles-requires
-senior-roles-requires c κs = search needs
+senior-roles-requires c κs = tt
 
 close-requires : tie.Need-close-requires
 unfolding at

@@ -15,13 +15,13 @@ cast-j : tie.Need-cast-j
 cast-j c = search needs
 
 draw-requires : tie.Need-draw-requires
-draw-requires c κs = search needs
+draw-requires c κs = tt
 
 senior-roles-requires : tie.Need-senior-roles-requires
-senior-roles-requires c κs = search needs
+senior-roles-requires c κs = tt
 
 direct-sets-requires : tie.Need-direct-sets-requires
-direct-sets-requires c κs = search needs
+direct-sets-requires c κs = tt
 
 mul-union : tie.Need-mul-union
 mul-union c = search needs
@@ -32,10 +32,10 @@ array-read-union c =
     link-lt (c .before .before .before .before .before .before .args .roles) (search needs) (c .before .before .before .before .before .before .args .sets .now) (c .before .before .before .before .before .before .args .a .0) (c .before .before .before .before .before .before .args .b .0) (c .before .before .before .before .before .before .pre) .1
 
 single-requires : tie.Need-single-requires
-single-requires c κs = search needs
+single-requires c κs = tt
 
 union-requires : tie.Need-union-requires
-union-requires c κs = search needs
+union-requires c κs = tt
 
 mul-joins : tie.Need-mul-joins
 mul-joins c = search needs

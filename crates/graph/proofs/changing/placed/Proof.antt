@@ -12,13 +12,13 @@ cast-i : tie.Need-cast-i
 cast-i c = search needs
 
 draw-requires : tie.Need-draw-requires
-draw-requires c κs = search needs
+draw-requires c κs = tt
 
 senior-roles-requires : tie.Need-senior-roles-requires
-senior-roles-requires c κs = search needs
+senior-roles-requires c κs = tt
 
 direct-sets-requires : tie.Need-direct-sets-requires
-direct-sets-requires c κs = search needs
+direct-sets-requires c κs = tt
 
 mul-union : tie.Need-mul-union
 mul-union c = search needs
@@ -29,7 +29,7 @@ array-read-union c =
     place-lt (c .before .before .before .before .before .args .roles) (search needs) (c .before .before .before .before .before .args .sets .now) (c .before .before .before .before .before .args .a .0) (c .before .before .before .before .before .args .own) (c .before .before .before .before .before .args .juniors) (c .before .before .before .before .before .args .seniors) (c .before .before .before .before .before .pre)
 
 union-requires : tie.Need-union-requires
-union-requires c κs = search needs
+union-requires c κs = tt
 
 mul-directs : tie.Need-mul-directs
 mul-directs c = search needs
@@ -40,10 +40,10 @@ array-write-directs c =
     place-lt (c .before .before .before .before .before .before .args .roles) (search needs) (c .before .before .before .before .before .before .args .sets .now) (c .before .before .before .before .before .before .args .a .0) (c .before .before .before .before .before .before .args .own) (c .before .before .before .before .before .before .args .juniors) (c .before .before .before .before .before .before .args .seniors) (c .before .before .before .before .before .before .pre)
 
 single-requires : tie.Need-single-requires
-single-requires c κs = search needs
+single-requires c κs = tt
 
 put-all-requires : tie.Need-put-all-requires
-put-all-requires c κs = search needs
+put-all-requires c κs = tt
 
 mul-union-2 : tie.Need-mul-union-2
 mul-union-2 c = search needs
@@ -54,7 +54,7 @@ array-read-union-2 c =
     place-lt (c .before .before .before .before .before .before .before .before .before .args .roles) (search needs) (c .before .before .before .before .before .before .before .before .before .args .sets .now) (c .before .before .before .before .before .before .before .before .before .args .a .0) (c .before .before .before .before .before .before .before .before .before .args .own) (c .before .before .before .before .before .before .before .before .before .args .juniors) (c .before .before .before .before .before .before .before .before .before .args .seniors) (c .before .before .before .before .before .before .before .before .before .pre)
 
 union-requires-2 : tie.Need-union-requires-2
-union-requires-2 c κs = search needs
+union-requires-2 c κs = tt
 
 mul-joins : tie.Need-mul-joins
 mul-joins c = search needs
@@ -65,10 +65,10 @@ array-write-joins c =
     place-lt (c .before .before .before .before .before .before .before .before .before .before .args .roles) (search needs) (c .before .before .before .before .before .before .before .before .before .before .args .sets .now) (c .before .before .before .before .before .before .before .before .before .before .args .a .0) (c .before .before .before .before .before .before .before .before .before .before .args .own) (c .before .before .before .before .before .before .before .before .before .before .args .juniors) (c .before .before .before .before .before .before .before .before .before .before .args .seniors) (c .before .before .before .before .before .before .before .before .before .before .pre)
 
 single-requires-2 : tie.Need-single-requires-2
-single-requires-2 c κs = search needs
+single-requires-2 c κs = tt
 
 union-requires-3 : tie.Need-union-requires-3
-union-requires-3 c κs = search needs
+union-requires-3 c κs = tt
 
 closed-requires : tie.Need-closed-requires
 unfolding at

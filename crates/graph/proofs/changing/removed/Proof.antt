@@ -16,16 +16,16 @@ cast-i : tie.Need-cast-i
 cast-i c = search needs
 
 senior-roles-requires : tie.Need-senior-roles-requires
-senior-roles-requires c κs = search needs
+senior-roles-requires c κs = tt
 
 draw-requires : tie.Need-draw-requires
-draw-requires c κs = search needs
+draw-requires c κs = tt
 
 direct-sets-requires : tie.Need-direct-sets-requires
-direct-sets-requires c κs = search needs
+direct-sets-requires c κs = tt
 
 seniors-in-requires : tie.Need-seniors-in-requires
-seniors-in-requires c κs = search needs
+seniors-in-requires c κs = tt
 
 mul-when : tie.Need-mul-when
 mul-when c = search needs
@@ -36,10 +36,10 @@ array-read-when c =
     remove-lt (c .before .before .before .before .before .before .before .args .roles) (search needs) (c .before .before .before .before .before .before .before .args .sets .now) (c .before .before .before .before .before .before .before .args .a .0) (c .before .before .before .before .before .before .before .args .b) (c .before .before .before .before .before .before .before .pre)
 
 when-requires : tie.Need-when-requires
-when-requires c κs = search needs
+when-requires c κs = tt
 
 put-all-requires : tie.Need-put-all-requires
-put-all-requires c κs = search needs
+put-all-requires c κs = tt
 
 mul-directs : tie.Need-mul-directs
 mul-directs c = search needs
@@ -58,13 +58,13 @@ array-read-juniors c =
     remove-lt (c .before .before .before .before .before .before .before .before .before .before .args .roles) (search needs) (c .before .before .before .before .before .before .before .before .before .before .args .sets .now) (c .before .before .before .before .before .before .before .before .before .before .args .a .0) (c .before .before .before .before .before .before .before .before .before .before .args .b) (c .before .before .before .before .before .before .before .before .before .before .pre)
 
 put-all-requires-2 : tie.Need-put-all-requires-2
-put-all-requires-2 c κs = search needs
+put-all-requires-2 c κs = tt
 
 single-requires : tie.Need-single-requires
-single-requires c κs = search needs
+single-requires c κs = tt
 
 take-all-requires : tie.Need-take-all-requires
-take-all-requires c κs = search needs
+take-all-requires c κs = tt
 
 mul-joins : tie.Need-mul-joins
 mul-joins c = search needs
@@ -75,10 +75,10 @@ array-write-joins c =
     remove-lt (c .before .before .before .before .before .before .before .before .before .before .before .before .before .before .before .args .roles) (search needs) (c .before .before .before .before .before .before .before .before .before .before .before .before .before .before .before .args .sets .now) (c .before .before .before .before .before .before .before .before .before .before .before .before .before .before .before .args .a .0) (c .before .before .before .before .before .before .before .before .before .before .before .before .before .before .before .args .b) (c .before .before .before .before .before .before .before .before .before .before .before .before .before .before .before .pre)
 
 single-requires-2 : tie.Need-single-requires-2
-single-requires-2 c κs = search needs
+single-requires-2 c κs = tt
 
 difference-requires : tie.Need-difference-requires
-difference-requires c κs = search needs
+difference-requires c κs = tt
 
 closed-requires : tie.Need-closed-requires
 unfolding at

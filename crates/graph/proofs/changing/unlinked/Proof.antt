@@ -18,16 +18,16 @@ cast-j : tie.Need-cast-j
 cast-j c = search needs
 
 senior-roles-requires : tie.Need-senior-roles-requires
-senior-roles-requires c κs = search needs
+senior-roles-requires c κs = tt
 
 draw-requires : tie.Need-draw-requires
-draw-requires c κs = search needs
+draw-requires c κs = tt
 
 direct-sets-requires : tie.Need-direct-sets-requires
-direct-sets-requires c κs = search needs
+direct-sets-requires c κs = tt
 
 seniors-in-requires : tie.Need-seniors-in-requires
-seniors-in-requires c κs = search needs
+seniors-in-requires c κs = tt
 
 mul-difference : tie.Need-mul-difference
 mul-difference c = search needs
@@ -38,10 +38,10 @@ array-read-difference c =
     unlink-lt (c .before .before .before .before .before .before .before .before .args .roles) (search needs) (c .before .before .before .before .before .before .before .before .args .sets .now) (c .before .before .before .before .before .before .before .before .args .a .0) (c .before .before .before .before .before .before .before .before .args .b .0) (c .before .before .before .before .before .before .before .before .pre) .1
 
 single-requires : tie.Need-single-requires
-single-requires c κs = search needs
+single-requires c κs = tt
 
 difference-requires : tie.Need-difference-requires
-difference-requires c κs = search needs
+difference-requires c κs = tt
 
 mul-union : tie.Need-mul-union
 mul-union c = search needs
@@ -52,13 +52,13 @@ array-read-union c =
     unlink-lt (c .before .before .before .before .before .before .before .before .before .before .args .roles) (search needs) (c .before .before .before .before .before .before .before .before .before .before .args .sets .now) (c .before .before .before .before .before .before .before .before .before .before .args .a .0) (c .before .before .before .before .before .before .before .before .before .before .args .b .0) (c .before .before .before .before .before .before .before .before .before .before .pre) .0
 
 union-requires : tie.Need-union-requires
-union-requires c κs = search needs
+union-requires c κs = tt
 
 single-requires-2 : tie.Need-single-requires-2
-single-requires-2 c κs = search needs
+single-requires-2 c κs = tt
 
 put-all-requires : tie.Need-put-all-requires
-put-all-requires c κs = search needs
+put-all-requires c κs = tt
 
 mul-joins : tie.Need-mul-joins
 mul-joins c = search needs

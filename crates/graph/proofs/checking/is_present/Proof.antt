@@ -7,7 +7,7 @@ use Rattle.graph.proofs.checking.is_present.Statement.{statement}
 use Rattle.graph.proofs.checking.is_present.Tie as tie
 
 member-requires : tie.Need-member-requires
-member-requires c κs = search needs
+member-requires c κs = tt
 
 returns : tie.Need-returns
 unfolding present is-end

@@ -9,43 +9,43 @@ enum-known-change : tie.Need-enum-known-change
 enum-known-change c = search needs
 
 judge-place-requires : tie.Need-judge-place-requires
-judge-place-requires c κs = search needs
+judge-place-requires c κs = tt
 
 enum-known-change-2 : tie.Need-enum-known-change-2
 enum-known-change-2 c = search needs
 
 judge-add-requires : tie.Need-judge-add-requires
-judge-add-requires c κs = search needs
+judge-add-requires c κs = tt
 
 enum-known-change-3 : tie.Need-enum-known-change-3
 enum-known-change-3 c = search needs
 
 judge-remove-requires : tie.Need-judge-remove-requires
-judge-remove-requires c κs = search needs
+judge-remove-requires c κs = tt
 
 enum-known-change-4 : tie.Need-enum-known-change-4
 enum-known-change-4 c = search needs
 
 judge-grant-requires : tie.Need-judge-grant-requires
-judge-grant-requires c κs = search needs
+judge-grant-requires c κs = tt
 
 enum-known-change-5 : tie.Need-enum-known-change-5
 enum-known-change-5 c = search needs
 
 judge-withdraw-requires : tie.Need-judge-withdraw-requires
-judge-withdraw-requires c κs = search needs
+judge-withdraw-requires c κs = tt
 
 enum-known-change-6 : tie.Need-enum-known-change-6
 enum-known-change-6 c = search needs
 
 judge-link-requires : tie.Need-judge-link-requires
-judge-link-requires c κs = search needs
+judge-link-requires c κs = tt
 
 enum-known-change-7 : tie.Need-enum-known-change-7
 enum-known-change-7 c = search needs
 
 judge-unlink-requires : tie.Need-judge-unlink-requires
-judge-unlink-requires c κs = search needs
+judge-unlink-requires c κs = tt
 
 returns : tie.Need-returns
 unfolding read-change

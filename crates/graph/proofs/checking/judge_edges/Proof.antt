@@ -10,10 +10,10 @@ use Rattle.graph.proofs.checking.judge_edges.Statement.{statement}
 use Rattle.graph.proofs.checking.judge_edges.Tie as tie
 
 is-present-requires : tie.Need-is-present-requires
-is-present-requires c κs = search needs
+is-present-requires c κs = tt
 
 refuse-requires : tie.Need-refuse-requires
-refuse-requires c κs = search needs
+refuse-requires c κs = tt
 
 returns : tie.Need-returns
 unfolding early verdict input-checks state-checks is-end effective
@@ -23,10 +23,10 @@ returns c =
     (c .refuse .ensures)
 
 absent-in-requires : tie.Need-absent-in-requires
-absent-in-requires c κs = search needs
+absent-in-requires c κs = tt
 
 refuse-requires-2 : tie.Need-refuse-requires-2
-refuse-requires-2 c κs = search needs
+refuse-requires-2 c κs = tt
 
 returns-2 : tie.Need-returns-2
 unfolding early verdict input-checks state-checks is-end effective
@@ -38,10 +38,10 @@ returns-2 c =
     (c .refuse2 .ensures ∙ ap (refused 21) (absent-by _ (c .before .before .before .before .before .args .sets .now) _ (c .before .before .absent-in .ensures)))
 
 absent-in-requires-2 : tie.Need-absent-in-requires-2
-absent-in-requires-2 c κs = search needs
+absent-in-requires-2 c κs = tt
 
 refuse-requires-3 : tie.Need-refuse-requires-3
-refuse-requires-3 c κs = search needs
+refuse-requires-3 c κs = tt
 
 returns-3 : tie.Need-returns-3
 unfolding early verdict input-checks state-checks is-end effective
@@ -54,10 +54,10 @@ returns-3 c =
     (c .refuse3 .ensures ∙ ap (refused 21) (absent-by _ (c .before .before .before .before .before .before .before .args .sets .now) _ (c .before .before .absent-in2 .ensures)))
 
 circle-in-requires : tie.Need-circle-in-requires
-circle-in-requires c κs = search needs
+circle-in-requires c κs = tt
 
 refuse-requires-4 : tie.Need-refuse-requires-4
-refuse-requires-4 c κs = search needs
+refuse-requires-4 c κs = tt
 
 returns-4 : tie.Need-returns-4
 unfolding early verdict input-checks state-checks is-end effective

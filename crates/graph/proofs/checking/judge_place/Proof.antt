@@ -11,7 +11,7 @@ use Rattle.graph.proofs.checking.judge_place.Statement.{statement}
 use Rattle.graph.proofs.checking.judge_place.Tie as tie
 
 refuse-requires : tie.Need-refuse-requires
-refuse-requires c κs = search needs
+refuse-requires c κs = tt
 
 returns : tie.Need-returns
 unfolding early verdict input-checks state-checks is-end effective
@@ -21,7 +21,7 @@ returns c =
     (c .refuse .ensures)
 
 refuse-requires-2 : tie.Need-refuse-requires-2
-refuse-requires-2 c κs = search needs
+refuse-requires-2 c κs = tt
 
 returns-2 : tie.Need-returns-2
 unfolding early verdict input-checks state-checks is-end effective
@@ -33,10 +33,10 @@ returns-2 c =
     (c .refuse2 .ensures)
 
 end-in-requires : tie.Need-end-in-requires
-end-in-requires c κs = search needs
+end-in-requires c κs = tt
 
 refuse-requires-3 : tie.Need-refuse-requires-3
-refuse-requires-3 c κs = search needs
+refuse-requires-3 c κs = tt
 
 returns-3 : tie.Need-returns-3
 unfolding early verdict input-checks state-checks is-end effective
@@ -49,10 +49,10 @@ returns-3 c =
     (c .refuse3 .ensures ∙ ap (refused 3) (c .before .before .end-in .ensures))
 
 end-in-requires-2 : tie.Need-end-in-requires-2
-end-in-requires-2 c κs = search needs
+end-in-requires-2 c κs = tt
 
 refuse-requires-4 : tie.Need-refuse-requires-4
-refuse-requires-4 c κs = search needs
+refuse-requires-4 c κs = tt
 
 returns-4 : tie.Need-returns-4
 unfolding early verdict input-checks state-checks is-end effective
@@ -66,10 +66,10 @@ returns-4 c =
     (c .refuse4 .ensures ∙ ap (refused 3) (c .before .before .end-in2 .ensures))
 
 in-either-requires : tie.Need-in-either-requires
-in-either-requires c κs = search needs
+in-either-requires c κs = tt
 
 refuse-requires-5 : tie.Need-refuse-requires-5
-refuse-requires-5 c κs = search needs
+refuse-requires-5 c κs = tt
 
 returns-5 : tie.Need-returns-5
 unfolding early verdict input-checks state-checks is-end effective
@@ -84,7 +84,7 @@ returns-5 c =
     (c .refuse5 .ensures)
 
 judge-edges-requires : tie.Need-judge-edges-requires
-judge-edges-requires c κs = search needs
+judge-edges-requires c κs = tt
 
 returns-6 : tie.Need-returns-6
 unfolding early verdict input-checks state-checks is-end effective read-verdict

@@ -55,7 +55,7 @@ abbrev gather-claims : ℕ → gather-lts.Claims
 gather-claims t = (entry-reads.Asked, entry-reads.Learnt, lowest-member-reads.Asked, lowest-member-reads.Learnt, close-role-below t, close-role.Post, union-reads.Asked, union-reads.Learnt, without-lowest-reads.Asked, without-lowest-reads.Learnt)
 
 close-role-member-requires : (t : ℕ) → close-role-lts.Need-member-requires (close-role-claims t) (close-role-at t) close-role.Post
-close-role-member-requires t c κs = search needs
+close-role-member-requires t c κs = tt
 
 close-role-returns : (t : ℕ) → close-role-lts.Need-returns (close-role-claims t) (close-role-at t) close-role.Post
 close-role-returns t c =
@@ -73,7 +73,7 @@ close-role-element-copy-out-union : (t : ℕ) → close-role-lts.Need-element-co
 close-role-element-copy-out-union t c = search needs
 
 close-role-union-requires : (t : ℕ) → close-role-lts.Need-union-requires (close-role-claims t) (close-role-at t) close-role.Post
-close-role-union-requires t c κs = search needs
+close-role-union-requires t c κs = tt
 
 close-role-mul-sets : (t : ℕ) → close-role-lts.Need-mul-sets (close-role-claims t) (close-role-at t) close-role.Post
 close-role-mul-sets t c = search needs
@@ -82,10 +82,10 @@ close-role-element-write-sets : (t : ℕ) → close-role-lts.Need-element-write-
 close-role-element-write-sets t c = search needs
 
 close-role-single-requires : (t : ℕ) → close-role-lts.Need-single-requires (close-role-claims t) (close-role-at t) close-role.Post
-close-role-single-requires t c κs = search needs
+close-role-single-requires t c κs = tt
 
 close-role-union-requires-2 : (t : ℕ) → close-role-lts.Need-union-requires-2 (close-role-claims t) (close-role-at t) close-role.Post
-close-role-union-requires-2 t c κs = search needs
+close-role-union-requires-2 t c κs = tt
 
 close-role-returns-2 : (t : ℕ) → close-role-lts.Need-returns-2 (close-role-claims t) (close-role-at t) close-role.Post
 unfolding at
@@ -101,7 +101,7 @@ abbrev gather-μ-loop : gather-lts.MeasureT-loop
 gather-μ-loop directs juniors sets₀ before r done₀ set₀ rest₀ sets done set rest = rest
 
 gather-entry-requires : (t : ℕ) → gather-lts.Need-entry-requires (gather-claims t) (gather-at t) gather.Post gather-Inv-loop gather-μ-loop
-gather-entry-requires t c κs = search needs
+gather-entry-requires t c κs = tt
 
 gather-loop-holds : (t : ℕ) → gather-lts.Need-loop-holds (gather-claims t) (gather-at t) gather.Post gather-Inv-loop gather-μ-loop
 gather-loop-holds t c =
@@ -110,7 +110,7 @@ gather-loop-holds t c =
     (joined-none (c .entry .ok) (p .pre .1 .1 .1))
 
 gather-lowest-member-requires : (t : ℕ) → gather-lts.Need-lowest-member-requires (gather-claims t) (gather-at t) gather.Post gather-Inv-loop gather-μ-loop
-gather-lowest-member-requires t c κs = search needs
+gather-lowest-member-requires t c κs = tt
 
 gather-cast-t : (t : ℕ) → gather-lts.Need-cast-t (gather-claims t) (gather-at t) gather.Post gather-Inv-loop gather-μ-loop
 gather-cast-t t c = search needs
@@ -135,10 +135,10 @@ gather-element-copy-out-union : (t : ℕ) → gather-lts.Need-element-copy-out-u
 gather-element-copy-out-union t c = gather-below-count t (c .before .before)
 
 gather-union-requires : (t : ℕ) → gather-lts.Need-union-requires (gather-claims t) (gather-at t) gather.Post gather-Inv-loop gather-μ-loop
-gather-union-requires t c κs = search needs
+gather-union-requires t c κs = tt
 
 gather-without-lowest-requires : (t : ℕ) → gather-lts.Need-without-lowest-requires (gather-claims t) (gather-at t) gather.Post gather-Inv-loop gather-μ-loop
-gather-without-lowest-requires t c κs = search needs
+gather-without-lowest-requires t c κs = tt
 
 gather-loop-less : (t : ℕ) → gather-lts.Need-loop-less (gather-claims t) (gather-at t) gather.Post gather-Inv-loop gather-μ-loop
 gather-loop-less t c = left-falls (c .before .before .before .before .before .before .before .loop .inv .sum .left) (c .before .before .before .before .before .before .loop-test .taken) (c .without-lowest .ensures)

@@ -14,10 +14,10 @@ abbrev μ-loop : tie.MeasureT-loop
 μ-loop present directs juniors sets₀ done₀ rest₀ sets done rest = rest
 
 copied-requires : tie.Need-copied-requires Inv-loop μ-loop
-copied-requires c κs = search needs
+copied-requires c κs = tt
 
 difference-requires : tie.Need-difference-requires Inv-loop μ-loop
-difference-requires c κs = search needs
+difference-requires c κs = tt
 
 loop-holds : tie.Need-loop-holds Inv-loop μ-loop
 loop-holds c =
@@ -25,7 +25,7 @@ loop-holds c =
     doing-none (p .pre) (p .fits .present .fits) (c .before .copied .ensures .1) (c .before .copied .ensures .0) (c .difference .ensures)
 
 lowest-member-requires : tie.Need-lowest-member-requires Inv-loop μ-loop
-lowest-member-requires c κs = search needs
+lowest-member-requires c κs = tt
 
 cast-r : tie.Need-cast-r Inv-loop μ-loop
 cast-r c = search needs
@@ -37,7 +37,7 @@ close-role-requires c κs =
     (left-lowest (l .inv .left) (c .before .before .loop-test .taken) (c .before .lowest-member .ensures), (p .pre .ending, l .inv .memo))
 
 without-lowest-requires : tie.Need-without-lowest-requires Inv-loop μ-loop
-without-lowest-requires c κs = search needs
+without-lowest-requires c κs = tt
 
 loop-less : tie.Need-loop-less Inv-loop μ-loop
 loop-less c =

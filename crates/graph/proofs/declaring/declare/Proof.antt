@@ -16,7 +16,7 @@ use Rattle.graph.proofs.declaring.declare.Statement.{statement}
 use Rattle.graph.proofs.declaring.declare.Tie as tie
 
 judge-declare-requires : tie.Need-judge-declare-requires
-judge-declare-requires c κs = search needs
+judge-declare-requires c κs = tt
 
 enum-told : tie.Need-enum-told
 enum-told c = search needs
@@ -28,7 +28,7 @@ returns : tie.Need-returns
 returns c = stays _ _ _ (c .before .before .judge-declare .ensures) (c .enum-told2 .given .1)
 
 declared-requires : tie.Need-declared-requires
-declared-requires c κs = search needs
+declared-requires c κs = tt
 
 -- Two numbers that no check refuses are privileges.
 privileges : (g : Graph) (a b : ℕ) → verdict (declare-checks g a b) ≡ passed → max a b < privilege-count

@@ -15,10 +15,10 @@ use Rattle.graph.proofs.declaring.declared.Statement.{statement}
 use Rattle.graph.proofs.declaring.declared.Tie as tie
 
 lower-of-requires : tie.Need-lower-of-requires
-lower-of-requires c κs = search needs
+lower-of-requires c κs = tt
 
 higher-of-requires : tie.Need-higher-of-requires
-higher-of-requires c κs = search needs
+higher-of-requires c κs = tt
 
 lower-lt : (c : tie.Then1) → c .before .before .lower-of .result < privilege-count
 lower-lt c = omega (arith, c .before .before .lower-of .ensures, c .before .higher-of .ensures, c .if1 .taken)
@@ -30,10 +30,10 @@ element-copy-out-union : tie.Need-element-copy-out-union
 element-copy-out-union c = lower-lt c
 
 single-requires : tie.Need-single-requires
-single-requires c κs = search needs
+single-requires c κs = tt
 
 union-requires : tie.Need-union-requires
-union-requires c κs = search needs
+union-requires c κs = tt
 
 mul-conflicts : tie.Need-mul-conflicts
 mul-conflicts c = let l = lower-lt (c .before .before .before) in search needs

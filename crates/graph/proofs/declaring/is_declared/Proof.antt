@@ -9,16 +9,16 @@ use Rattle.graph.proofs.declaring.is_declared.Statement.{statement}
 use Rattle.graph.proofs.declaring.is_declared.Tie as tie
 
 lower-of-requires : tie.Need-lower-of-requires
-lower-of-requires c κs = search needs
+lower-of-requires c κs = tt
 
 higher-of-requires : tie.Need-higher-of-requires
-higher-of-requires c κs = search needs
+higher-of-requires c κs = tt
 
 entry-requires : tie.Need-entry-requires
-entry-requires c κs = search needs
+entry-requires c κs = tt
 
 member-requires : tie.Need-member-requires
-member-requires c κs = search needs
+member-requires c κs = tt
 
 returns : tie.Need-returns
 unfolding conflict declared

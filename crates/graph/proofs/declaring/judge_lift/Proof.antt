@@ -10,7 +10,7 @@ use Rattle.graph.proofs.declaring.judge_lift.Statement.{statement}
 use Rattle.graph.proofs.declaring.judge_lift.Tie as tie
 
 judge-pair-requires : tie.Need-judge-pair-requires
-judge-pair-requires c κs = search needs
+judge-pair-requires c κs = tt
 
 enum-told : tie.Need-enum-told
 enum-told c = search needs
@@ -23,10 +23,10 @@ unfolding lift-checks
 returns c = refused-first _ _ (c .before .before .judge-pair .ensures) (c .enum-told2 .given .1)
 
 is-declared-requires : tie.Need-is-declared-requires
-is-declared-requires c κs = search needs
+is-declared-requires c κs = tt
 
 refuse-requires : tie.Need-refuse-requires
-refuse-requires c κs = search needs
+refuse-requires c κs = tt
 
 returns-2 : tie.Need-returns-2
 unfolding lift-checks read-verdict

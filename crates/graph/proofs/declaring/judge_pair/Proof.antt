@@ -9,13 +9,13 @@ use Rattle.graph.proofs.declaring.judge_pair.Statement.{statement}
 use Rattle.graph.proofs.declaring.judge_pair.Tie as tie
 
 refuse-requires : tie.Need-refuse-requires
-refuse-requires c κs = search needs
+refuse-requires c κs = tt
 
 returns : tie.Need-returns
 returns c = c .refuse .ensures ∙ sym (stops _ _ (le-leb _ _ (c .before .if1 .taken)))
 
 refuse-requires-2 : tie.Need-refuse-requires-2
-refuse-requires-2 c κs = search needs
+refuse-requires-2 c κs = tt
 
 returns-2 : tie.Need-returns-2
 returns-2 c =
@@ -23,7 +23,7 @@ returns-2 c =
     ∙ sym (moves-on _ _ (lt-leb _ _ (c .before .before .before .if1 .left)) ∙ stops _ _ (le-leb _ _ (c .before .if2 .taken)))
 
 refuse-requires-3 : tie.Need-refuse-requires-3
-refuse-requires-3 c κs = search needs
+refuse-requires-3 c κs = tt
 
 returns-3 : tie.Need-returns-3
 returns-3 c =

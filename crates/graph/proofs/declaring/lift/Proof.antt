@@ -9,7 +9,7 @@ use Rattle.graph.proofs.declaring.lift.Statement.{statement}
 use Rattle.graph.proofs.declaring.lift.Tie as tie
 
 judge-lift-requires : tie.Need-judge-lift-requires
-judge-lift-requires c κs = search needs
+judge-lift-requires c κs = tt
 
 enum-told : tie.Need-enum-told
 enum-told c = search needs
@@ -22,7 +22,7 @@ unfolding lift-checks
 returns c = stays _ _ _ (c .before .before .judge-lift .ensures) (c .enum-told2 .given .1)
 
 lifted-requires : tie.Need-lifted-requires
-lifted-requires c κs = search needs
+lifted-requires c κs = tt
 
 returns-2 : tie.Need-returns-2
 unfolding lift-checks

@@ -18,19 +18,19 @@ use Rattle.graph.proofs.declaring.lifted.Statement.{statement}
 use Rattle.graph.proofs.declaring.lifted.Tie as tie
 
 lower-of-requires : tie.Need-lower-of-requires
-lower-of-requires c κs = search needs
+lower-of-requires c κs = tt
 
 higher-of-requires : tie.Need-higher-of-requires
-higher-of-requires c κs = search needs
+higher-of-requires c κs = tt
 
 entry-requires : tie.Need-entry-requires
-entry-requires c κs = search needs
+entry-requires c κs = tt
 
 single-requires : tie.Need-single-requires
-single-requires c κs = search needs
+single-requires c κs = tt
 
 difference-requires : tie.Need-difference-requires
-difference-requires c κs = search needs
+difference-requires c κs = tt
 
 mul-conflicts : tie.Need-mul-conflicts
 mul-conflicts c = search needs

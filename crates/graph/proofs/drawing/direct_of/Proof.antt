@@ -8,16 +8,16 @@ use Rattle.graph.proofs.drawing.direct_of.Statement.{statement}
 use Rattle.graph.proofs.drawing.direct_of.Tie as tie
 
 juniors-of-requires : tie.Need-juniors-of-requires
-juniors-of-requires c κs = search needs
+juniors-of-requires c κs = tt
 
 gathered-requires : tie.Need-gathered-requires
-gathered-requires c κs = search needs
+gathered-requires c κs = tt
 
 effective-of-requires : tie.Need-effective-of-requires
-effective-of-requires c κs = search needs
+effective-of-requires c κs = tt
 
 difference-requires : tie.Need-difference-requires
-difference-requires c κs = search needs
+difference-requires c κs = tt
 
 returns : tie.Need-returns
 returns c =

@@ -17,13 +17,13 @@ abbrev μ-loop : tie.MeasureT-loop
 μ-loop all sets juniors direct₀ rest₀ direct rest = rest
 
 copied-requires : tie.Need-copied-requires Inv-loop μ-loop
-copied-requires c κs = search needs
+copied-requires c κs = tt
 
 loop-holds : tie.Need-loop-holds Inv-loop μ-loop
 loop-holds c = filling-none _ _ (c .before .args .all) _ (search needs) (c .copied .ensures .1) (λ i. ap (λ l. at l i) (c .copied .ensures .0))
 
 lowest-member-requires : tie.Need-lowest-member-requires Inv-loop μ-loop
-lowest-member-requires c κs = search needs
+lowest-member-requires c κs = tt
 
 cast-s : tie.Need-cast-s Inv-loop μ-loop
 cast-s c = search needs
@@ -35,7 +35,7 @@ element-copy-out-gathered : tie.Need-element-copy-out-gathered Inv-loop μ-loop
 element-copy-out-gathered c = left-lowest (c .before .before .loop .inv .left) (c .before .loop-test .taken) (c .lowest-member .ensures)
 
 gathered-requires : tie.Need-gathered-requires Inv-loop μ-loop
-gathered-requires c κs = search needs
+gathered-requires c κs = tt
 
 mul-difference : tie.Need-mul-difference Inv-loop μ-loop
 mul-difference c = search needs
@@ -44,7 +44,7 @@ element-copy-out-difference : tie.Need-element-copy-out-difference Inv-loop μ-l
 element-copy-out-difference c = left-lowest (c .before .before .before .before .loop .inv .left) (c .before .before .before .loop-test .taken) (c .before .before .lowest-member .ensures)
 
 difference-requires : tie.Need-difference-requires Inv-loop μ-loop
-difference-requires c κs = search needs
+difference-requires c κs = tt
 
 mul-direct : tie.Need-mul-direct Inv-loop μ-loop
 mul-direct c = search needs
@@ -53,7 +53,7 @@ array-write-direct : tie.Need-array-write-direct Inv-loop μ-loop
 array-write-direct c = left-lowest (c .before .before .before .before .before .before .loop .inv .left) (c .before .before .before .before .before .loop-test .taken) (c .before .before .before .before .lowest-member .ensures)
 
 without-lowest-requires : tie.Need-without-lowest-requires Inv-loop μ-loop
-without-lowest-requires c κs = search needs
+without-lowest-requires c κs = tt
 
 loop-less : tie.Need-loop-less Inv-loop μ-loop
 loop-less c =

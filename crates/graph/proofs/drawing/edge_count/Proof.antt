@@ -8,13 +8,13 @@ use Rattle.graph.proofs.drawing.edge_count.Statement.{statement}
 use Rattle.graph.proofs.drawing.edge_count.Tie as tie
 
 draw-requires : tie.Need-draw-requires
-draw-requires c κs = search needs
+draw-requires c κs = tt
 
 senior-roles-requires : tie.Need-senior-roles-requires
-senior-roles-requires c κs = search needs
+senior-roles-requires c κs = tt
 
 total-size-requires : tie.Need-total-size-requires
-total-size-requires c κs = search needs
+total-size-requires c κs = tt
 
 returns : tie.Need-returns
 returns c =

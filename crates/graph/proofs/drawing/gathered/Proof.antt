@@ -16,7 +16,7 @@ loop-holds : tie.Need-loop-holds Inv-loop μ-loop
 loop-holds c = gathering-none _ (c .args .all) (search needs)
 
 lowest-member-requires : tie.Need-lowest-member-requires Inv-loop μ-loop
-lowest-member-requires c κs = search needs
+lowest-member-requires c κs = tt
 
 cast-r : tie.Need-cast-r Inv-loop μ-loop
 cast-r c = search needs
@@ -28,10 +28,10 @@ element-copy-out-union : tie.Need-element-copy-out-union Inv-loop μ-loop
 element-copy-out-union c = left-lowest (c .before .before .loop .inv .left) (c .before .loop-test .taken) (c .lowest-member .ensures)
 
 union-requires : tie.Need-union-requires Inv-loop μ-loop
-union-requires c κs = search needs
+union-requires c κs = tt
 
 without-lowest-requires : tie.Need-without-lowest-requires Inv-loop μ-loop
-without-lowest-requires c κs = search needs
+without-lowest-requires c κs = tt
 
 loop-less : tie.Need-loop-less Inv-loop μ-loop
 loop-less c =

@@ -13,16 +13,16 @@ cast-lower : tie.Need-cast-lower
 cast-lower c = search needs
 
 lower-requires : tie.Need-lower-requires
-lower-requires c κs = search needs
+lower-requires c κs = tt
 
 member-requires : tie.Need-member-requires
-member-requires c κs = search needs
+member-requires c κs = tt
 
 above-requires : tie.Need-above-requires
-above-requires c κs = search needs
+above-requires c κs = tt
 
 is-empty-requires : tie.Need-is-empty-requires
-is-empty-requires c κs = search needs
+is-empty-requires c κs = tt
 
 returns : tie.Need-returns
 returns c =

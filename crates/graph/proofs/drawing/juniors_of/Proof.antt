@@ -11,13 +11,13 @@ cast-lower : tie.Need-cast-lower
 cast-lower c = search needs
 
 lower-requires : tie.Need-lower-requires
-lower-requires c κs = search needs
+lower-requires c κs = tt
 
 all-lower-requires : tie.Need-all-lower-requires
-all-lower-requires c κs = search needs
+all-lower-requires c κs = tt
 
 difference-requires : tie.Need-difference-requires
-difference-requires c κs = search needs
+difference-requires c κs = tt
 
 returns : tie.Need-returns
 returns c =

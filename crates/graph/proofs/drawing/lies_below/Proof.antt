@@ -10,28 +10,28 @@ use Rattle.graph.proofs.drawing.lies_below.Statement.{statement}
 use Rattle.graph.proofs.drawing.lies_below.Tie as tie
 
 senior-roles-requires : tie.Need-senior-roles-requires
-senior-roles-requires c κs = search needs
+senior-roles-requires c κs = tt
 
 member-requires : tie.Need-member-requires
-member-requires c κs = search needs
+member-requires c κs = tt
 
 ordinary-roles-requires : tie.Need-ordinary-roles-requires
-ordinary-roles-requires c κs = search needs
+ordinary-roles-requires c κs = tt
 
 union-requires : tie.Need-union-requires
-union-requires c κs = search needs
+union-requires c κs = tt
 
 member-requires-2 : tie.Need-member-requires-2
-member-requires-2 c κs = search needs
+member-requires-2 c κs = tt
 
 entry-requires : tie.Need-entry-requires
-entry-requires c κs = search needs
+entry-requires c κs = tt
 
 entry-requires-2 : tie.Need-entry-requires-2
-entry-requires-2 c κs = search needs
+entry-requires-2 c κs = tt
 
 strictly-included-requires : tie.Need-strictly-included-requires
-strictly-included-requires c κs = search needs
+strictly-included-requires c κs = tt
 
 returns : tie.Need-returns
 unfolding effective

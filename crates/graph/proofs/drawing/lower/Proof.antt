@@ -9,10 +9,10 @@ use Rattle.graph.proofs.drawing.lower.Statement.{statement}
 use Rattle.graph.proofs.drawing.lower.Tie as tie
 
 ordinary-roles-requires : tie.Need-ordinary-roles-requires
-ordinary-roles-requires c κs = search needs
+ordinary-roles-requires c κs = tt
 
 union-requires : tie.Need-union-requires
-union-requires c κs = search needs
+union-requires c κs = tt
 
 returns : tie.Need-returns
 returns c =
@@ -20,16 +20,16 @@ returns c =
     c .union .ensures ∙ rw (c .before .before .ordinary-roles .ensures, c .before .if1 .taken) (below-top (drawn-from (a .roles) (a .sets .now)) (search needs))
 
 member-requires : tie.Need-member-requires
-member-requires c κs = search needs
+member-requires c κs = tt
 
 entry-requires : tie.Need-entry-requires
-entry-requires c κs = search needs
+entry-requires c κs = tt
 
 included-in-requires : tie.Need-included-in-requires
-included-in-requires c κs = search needs
+included-in-requires c κs = tt
 
 union-requires-2 : tie.Need-union-requires-2
-union-requires-2 c κs = search needs
+union-requires-2 c κs = tt
 
 returns-2 : tie.Need-returns-2
 unfolding effective

@@ -11,13 +11,13 @@ cast-upper : tie.Need-cast-upper
 cast-upper c = search needs
 
 upper-requires : tie.Need-upper-requires
-upper-requires c κs = search needs
+upper-requires c κs = tt
 
 all-upper-requires : tie.Need-all-upper-requires
-all-upper-requires c κs = search needs
+all-upper-requires c κs = tt
 
 difference-requires : tie.Need-difference-requires
-difference-requires c κs = search needs
+difference-requires c κs = tt
 
 returns : tie.Need-returns
 returns c =

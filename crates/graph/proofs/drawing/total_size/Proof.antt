@@ -22,7 +22,7 @@ loop-holds : tie.Need-loop-holds Inv-loop μ-loop
 loop-holds c = summing-none _ (c .args .all) (search needs)
 
 lowest-member-requires : tie.Need-lowest-member-requires Inv-loop μ-loop
-lowest-member-requires c κs = search needs
+lowest-member-requires c κs = tt
 
 cast-s : tie.Need-cast-s Inv-loop μ-loop
 cast-s c = search needs
@@ -34,7 +34,7 @@ element-copy-out-size : tie.Need-element-copy-out-size Inv-loop μ-loop
 element-copy-out-size c = left-lowest (c .before .before .loop .inv .left) (c .before .loop-test .taken) (c .lowest-member .ensures)
 
 size-requires : tie.Need-size-requires Inv-loop μ-loop
-size-requires c κs = search needs
+size-requires c κs = tt
 
 add-total : tie.Need-add-total Inv-loop μ-loop
 add-total c =
@@ -43,7 +43,7 @@ add-total c =
     omega (arith, summing-bound (b .loop .inv) (λ i. size-bound role-count (at (b .before .args .table .now) i)))
 
 without-lowest-requires : tie.Need-without-lowest-requires Inv-loop μ-loop
-without-lowest-requires c κs = search needs
+without-lowest-requires c κs = tt
 
 loop-less : tie.Need-loop-less Inv-loop μ-loop
 loop-less c =

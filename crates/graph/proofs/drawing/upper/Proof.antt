@@ -8,10 +8,10 @@ use Rattle.graph.proofs.drawing.upper.Statement.{statement}
 use Rattle.graph.proofs.drawing.upper.Tie as tie
 
 senior-roles-requires : tie.Need-senior-roles-requires
-senior-roles-requires c κs = search needs
+senior-roles-requires c κs = tt
 
 above-requires : tie.Need-above-requires
-above-requires c κs = search needs
+above-requires c κs = tt
 
 returns : tie.Need-returns
 returns c =

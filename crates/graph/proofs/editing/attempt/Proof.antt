@@ -12,7 +12,7 @@ use Rattle.graph.proofs.editing.attempt.Statement.{statement}
 use Rattle.graph.proofs.editing.attempt.Tie as tie
 
 judge-requires : tie.Need-judge-requires
-judge-requires c κs = search needs
+judge-requires c κs = tt
 
 enum-told : tie.Need-enum-told
 enum-told c = search needs
@@ -25,7 +25,7 @@ enum-told-2 : tie.Need-enum-told-2
 enum-told-2 c = search needs
 
 copied-requires : tie.Need-copied-requires
-copied-requires c κs = search needs
+copied-requires c κs = tt
 
 returns : tie.Need-returns
 unfolding read-verdict early

@@ -19,10 +19,10 @@ unfolding read-change
 placed-requires c κs = rw (c .before .change .given .1) at (c .before .before .before .pre)
 
 with-role-requires : tie.Need-with-role-requires
-with-role-requires c κs = search needs
+with-role-requires c κs = tt
 
 done-requires : tie.Need-done-requires
-done-requires c κs = search needs
+done-requires c κs = tt
 
 enum-known-change-2 : tie.Need-enum-known-change-2
 enum-known-change-2 c = search needs
@@ -32,10 +32,10 @@ unfolding read-change
 added-requires c κs = rw (c .before .change2 .given .1) at (c .before .before .before .pre)
 
 with-role-requires-2 : tie.Need-with-role-requires-2
-with-role-requires-2 c κs = search needs
+with-role-requires-2 c κs = tt
 
 done-requires-2 : tie.Need-done-requires-2
-done-requires-2 c κs = search needs
+done-requires-2 c κs = tt
 
 enum-known-change-3 : tie.Need-enum-known-change-3
 enum-known-change-3 c = search needs
@@ -45,10 +45,10 @@ unfolding read-change
 removed-requires c κs = rw (c .before .change3 .given .1) at (c .before .before .before .pre)
 
 without-role-requires : tie.Need-without-role-requires
-without-role-requires c κs = search needs
+without-role-requires c κs = tt
 
 done-requires-3 : tie.Need-done-requires-3
-done-requires-3 c κs = search needs
+done-requires-3 c κs = tt
 
 enum-known-change-4 : tie.Need-enum-known-change-4
 enum-known-change-4 c = search needs
@@ -58,7 +58,7 @@ unfolding read-change
 granted-requires c κs = rw (c .before .change4 .given .1) at (c .before .before .before .pre)
 
 done-requires-4 : tie.Need-done-requires-4
-done-requires-4 c κs = search needs
+done-requires-4 c κs = tt
 
 enum-known-change-5 : tie.Need-enum-known-change-5
 enum-known-change-5 c = search needs
@@ -68,7 +68,7 @@ unfolding read-change
 withdrawn-requires c κs = rw (c .before .change5 .given .1) at (c .before .before .before .pre)
 
 done-requires-5 : tie.Need-done-requires-5
-done-requires-5 c κs = search needs
+done-requires-5 c κs = tt
 
 enum-known-change-6 : tie.Need-enum-known-change-6
 enum-known-change-6 c = search needs
@@ -78,7 +78,7 @@ unfolding read-change
 linked-requires c κs = rw (c .before .change6 .given .1) at (c .before .before .before .pre)
 
 done-requires-6 : tie.Need-done-requires-6
-done-requires-6 c κs = search needs
+done-requires-6 c κs = tt
 
 enum-known-change-7 : tie.Need-enum-known-change-7
 enum-known-change-7 c = search needs
@@ -88,7 +88,7 @@ unfolding read-change
 unlinked-requires c κs = rw (c .before .change7 .given .1) at (c .before .before .before .pre)
 
 done-requires-7 : tie.Need-done-requires-7
-done-requires-7 c κs = search needs
+done-requires-7 c κs = tt
 
 returns : tie.Need-returns
 unfolding read-change edit redraw

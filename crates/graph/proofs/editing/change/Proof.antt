@@ -9,7 +9,7 @@ use Rattle.graph.proofs.editing.change.Statement.{statement}
 use Rattle.graph.proofs.editing.change.Tie as tie
 
 attempt-requires : tie.Need-attempt-requires
-attempt-requires c κs = search needs
+attempt-requires c κs = tt
 
 enum-told : tie.Need-enum-told
 enum-told c = search needs
@@ -18,7 +18,7 @@ enum-told-2 : tie.Need-enum-told-2
 enum-told-2 c = search needs
 
 judge-closed-requires : tie.Need-judge-closed-requires
-judge-closed-requires c κs = search needs
+judge-closed-requires c κs = tt
 
 enum-told-3 : tie.Need-enum-told-3
 enum-told-3 c = search needs

@@ -10,10 +10,10 @@ cast-i : tie.Need-cast-i
 cast-i c = search needs
 
 single-requires : tie.Need-single-requires
-single-requires c κs = search needs
+single-requires c κs = tt
 
 union-requires : tie.Need-union-requires
-union-requires c κs = search needs
+union-requires c κs = tt
 
 returns : tie.Need-returns
 returns c = c .union .ensures ∙ ap (union _) (c .before .single .ensures)

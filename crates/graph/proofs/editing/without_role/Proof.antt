@@ -10,10 +10,10 @@ cast-i : tie.Need-cast-i
 cast-i c = search needs
 
 single-requires : tie.Need-single-requires
-single-requires c κs = search needs
+single-requires c κs = tt
 
 difference-requires : tie.Need-difference-requires
-difference-requires c κs = search needs
+difference-requires c κs = tt
 
 returns : tie.Need-returns
 returns c = c .difference .ensures ∙ ap (difference _) (c .before .single .ensures)

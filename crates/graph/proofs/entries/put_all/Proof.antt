@@ -19,13 +19,13 @@ abbrev μ-loop : tie.MeasureT-loop
 μ-loop table₀ into s rest₀ table rest = rest
 
 copied-requires : tie.Need-copied-requires Inv-loop μ-loop
-copied-requires c κs = search needs
+copied-requires c κs = tt
 
 loop-holds : tie.Need-loop-holds Inv-loop μ-loop
 loop-holds c = filling-none _ _ (c .before .before .args .into) _ (search needs) (c .copied .ensures .1) (λ i. refl)
 
 lowest-member-requires : tie.Need-lowest-member-requires Inv-loop μ-loop
-lowest-member-requires c κs = search needs
+lowest-member-requires c κs = tt
 
 cast-r : tie.Need-cast-r Inv-loop μ-loop
 cast-r c = search needs
@@ -40,7 +40,7 @@ element-copy-out-union : tie.Need-element-copy-out-union Inv-loop μ-loop
 element-copy-out-union c = below c
 
 union-requires : tie.Need-union-requires Inv-loop μ-loop
-union-requires c κs = search needs
+union-requires c κs = tt
 
 mul-table : tie.Need-mul-table Inv-loop μ-loop
 mul-table c = search needs
@@ -49,7 +49,7 @@ element-write-table : tie.Need-element-write-table Inv-loop μ-loop
 element-write-table c = below (c .before .before)
 
 without-lowest-requires : tie.Need-without-lowest-requires Inv-loop μ-loop
-without-lowest-requires c κs = search needs
+without-lowest-requires c κs = tt
 
 loop-less : tie.Need-loop-less Inv-loop μ-loop
 loop-less c =

@@ -20,13 +20,13 @@ abbrev μ-loop : tie.MeasureT-loop
 μ-loop table₀ from s rest₀ table rest = rest
 
 copied-requires : tie.Need-copied-requires Inv-loop μ-loop
-copied-requires c κs = search needs
+copied-requires c κs = tt
 
 loop-holds : tie.Need-loop-holds Inv-loop μ-loop
 loop-holds c = filling-none _ _ (c .before .before .args .from) _ (search needs) (c .copied .ensures .1) (λ i. refl)
 
 lowest-member-requires : tie.Need-lowest-member-requires Inv-loop μ-loop
-lowest-member-requires c κs = search needs
+lowest-member-requires c κs = tt
 
 cast-r : tie.Need-cast-r Inv-loop μ-loop
 cast-r c = search needs
@@ -41,7 +41,7 @@ element-copy-out-difference : tie.Need-element-copy-out-difference Inv-loop μ-l
 element-copy-out-difference c = below c
 
 difference-requires : tie.Need-difference-requires Inv-loop μ-loop
-difference-requires c κs = search needs
+difference-requires c κs = tt
 
 mul-table : tie.Need-mul-table Inv-loop μ-loop
 mul-table c = search needs
@@ -50,7 +50,7 @@ element-write-table : tie.Need-element-write-table Inv-loop μ-loop
 element-write-table c = below (c .before .before)
 
 without-lowest-requires : tie.Need-without-lowest-requires Inv-loop μ-loop
-without-lowest-requires c κs = search needs
+without-lowest-requires c κs = tt
 
 loop-less : tie.Need-loop-less Inv-loop μ-loop
 loop-less c =

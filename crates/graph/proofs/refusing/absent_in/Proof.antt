@@ -16,13 +16,13 @@ use Rattle.graph.proofs.refusing.absent_in.Statement.{statement}
 use Rattle.graph.proofs.refusing.absent_in.Tie as tie
 
 union-requires : tie.Need-union-requires
-union-requires c κs = search needs
+union-requires c κs = tt
 
 difference-requires : tie.Need-difference-requires
-difference-requires c κs = search needs
+difference-requires c κs = tt
 
 first-requires : tie.Need-first-requires
-first-requires c κs = search needs
+first-requires c κs = tt
 
 lowest-absent : (roles s : ℕ) → lowest-member role-count (difference s (union 3 roles)) ≡ lowest role-count (λ n. member n s && not (present (drawn-from roles []) n))
 unfolding lowest-member present

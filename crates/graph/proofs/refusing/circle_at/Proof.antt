@@ -11,16 +11,16 @@ use Rattle.graph.proofs.refusing.circle_at.Statement.{statement}
 use Rattle.graph.proofs.refusing.circle_at.Tie as tie
 
 lower-requires : tie.Need-lower-requires
-lower-requires c κs = search needs
+lower-requires c κs = tt
 
 single-requires : tie.Need-single-requires
-single-requires c κs = search needs
+single-requires c κs = tt
 
 union-requires : tie.Need-union-requires
-union-requires c κs = search needs
+union-requires c κs = tt
 
 intersection-requires : tie.Need-intersection-requires
-intersection-requires c κs = search needs
+intersection-requires c κs = tt
 
 returns : tie.Need-returns
 returns c =

@@ -27,13 +27,13 @@ loop-holds : tie.Need-loop-holds Inv-loop μ-loop
 loop-holds c = starts _ _ (search needs)
 
 first-requires : tie.Need-first-requires Inv-loop μ-loop
-first-requires c κs = search needs
+first-requires c κs = tt
 
 cast-i : tie.Need-cast-i Inv-loop μ-loop
 cast-i c = let l = visit-lt (c .before .before .loop .inv) (c .before .loop-test .taken) (c .first .ensures) in search needs
 
 circle-at-requires : tie.Need-circle-at-requires Inv-loop μ-loop
-circle-at-requires c κs = search needs
+circle-at-requires c κs = tt
 
 returns : tie.Need-returns Inv-loop μ-loop
 returns c =
@@ -41,7 +41,7 @@ returns c =
     hit (b .before .before .loop .inv) (b .before .loop-test .taken) (b .first .ensures) (sym (c .before .circle-at .ensures) ∙ c .if1 .taken)
 
 without-lowest-requires : tie.Need-without-lowest-requires Inv-loop μ-loop
-without-lowest-requires c κs = search needs
+without-lowest-requires c κs = tt
 
 loop-less : tie.Need-loop-less Inv-loop μ-loop
 loop-less c =

@@ -14,10 +14,10 @@ use Rattle.graph.proofs.refusing.end_in.Statement.{statement}
 use Rattle.graph.proofs.refusing.end_in.Tie as tie
 
 intersection-requires : tie.Need-intersection-requires
-intersection-requires c κs = search needs
+intersection-requires c κs = tt
 
 first-requires : tie.Need-first-requires
-first-requires c κs = search needs
+first-requires c κs = tt
 
 lowest-end : (s : ℕ) → lowest-member role-count (intersection 3 s) ≡ lowest role-count (λ n. is-end n && member n s)
 unfolding lowest-member

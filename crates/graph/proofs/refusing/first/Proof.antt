@@ -7,7 +7,7 @@ use Rattle.graph.proofs.refusing.first.Statement.{statement}
 use Rattle.graph.proofs.refusing.first.Tie as tie
 
 lowest-member-requires : tie.Need-lowest-member-requires
-lowest-member-requires c κs = search needs
+lowest-member-requires c κs = tt
 
 cast-result : tie.Need-cast-result
 cast-result c = record { fits = omega (arith, lowest-bound (c .before .args .s), c .lowest-member .ensures) }

@@ -26,7 +26,7 @@ loop-holds : tie.Need-loop-holds Inv-loop μ-loop
 loop-holds c = starts _ _ (search needs)
 
 first-requires : tie.Need-first-requires Inv-loop μ-loop
-first-requires c κs = search needs
+first-requires c κs = tt
 
 role-lt : (c : tie.After-first Inv-loop μ-loop) → c .first .result < role-count
 role-lt c = visit-lt (c .before .before .loop .inv) (c .before .loop-test .taken) (c .first .ensures)
@@ -47,7 +47,7 @@ returns c =
     any-hit (b .before .before .loop .inv) (b .before .loop-test .taken) (b .first .ensures) (eq-eqb _ _ (c .if1 .taken))
 
 without-lowest-requires : tie.Need-without-lowest-requires Inv-loop μ-loop
-without-lowest-requires c κs = search needs
+without-lowest-requires c κs = tt
 
 loop-less : tie.Need-loop-less Inv-loop μ-loop
 loop-less c =

@@ -12,10 +12,10 @@ cast-j : tie.Need-cast-j
 cast-j c = search needs
 
 member-requires : tie.Need-member-requires
-member-requires c κs = search needs
+member-requires c κs = tt
 
 member-requires-2 : tie.Need-member-requires-2
-member-requires-2 c κs = search needs
+member-requires-2 c κs = tt
 
 returns : tie.Need-returns
 unfolding holds-both

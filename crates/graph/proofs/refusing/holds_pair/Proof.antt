@@ -20,7 +20,7 @@ loop-holds : tie.Need-loop-holds Inv-loop μ-loop
 loop-holds c = starts _ _ (search needs)
 
 first-requires : tie.Need-first-requires Inv-loop μ-loop
-first-requires c κs = search needs
+first-requires c κs = tt
 
 privilege-lt : (c : tie.After-first Inv-loop μ-loop) → c .first .result < role-count
 privilege-lt c = visit-lt (c .before .before .loop .inv) (c .before .loop-test .taken) (c .first .ensures)
@@ -29,7 +29,7 @@ cast-i : tie.Need-cast-i Inv-loop μ-loop
 cast-i c = let l = privilege-lt c in search needs
 
 without-lowest-requires : tie.Need-without-lowest-requires Inv-loop μ-loop
-without-lowest-requires c κs = search needs
+without-lowest-requires c κs = tt
 
 mul-if1 : tie.Need-mul-if1 Inv-loop μ-loop
 mul-if1 c = let l = privilege-lt (c .before) in search needs

@@ -18,10 +18,10 @@ enum-known-change : tie.Need-enum-known-change
 enum-known-change c = search needs
 
 still-below-requires : tie.Need-still-below-requires
-still-below-requires c κs = search needs
+still-below-requires c κs = tt
 
 refuse-requires : tie.Need-refuse-requires
-refuse-requires c κs = search needs
+refuse-requires c κs = tt
 
 returns : tie.Need-returns
 unfolding read-change still-below effective
@@ -30,10 +30,10 @@ returns c =
     rw (b .before .before .change .given .1) (c .refuse .ensures ∙ sym (stops _ _ (sym (b .still-below .ensures) ∙ c .before .if1 .taken)))
 
 judge-sets-requires : tie.Need-judge-sets-requires
-judge-sets-requires c κs = search needs
+judge-sets-requires c κs = tt
 
 judge-sets-requires-2 : tie.Need-judge-sets-requires-2
-judge-sets-requires-2 c κs = search needs
+judge-sets-requires-2 c κs = tt
 
 returns-2 : tie.Need-returns-2
 unfolding read-change still-below effective

@@ -10,10 +10,10 @@ use Rattle.graph.proofs.refusing.judge_sets.Statement.{statement}
 use Rattle.graph.proofs.refusing.judge_sets.Tie as tie
 
 empty-role-requires : tie.Need-empty-role-requires
-empty-role-requires c κs = search needs
+empty-role-requires c κs = tt
 
 refuse-requires : tie.Need-refuse-requires
-refuse-requires c κs = search needs
+refuse-requires c κs = tt
 
 returns : tie.Need-returns
 unfolding ordinary effective empty-role closed-checks
@@ -22,10 +22,10 @@ returns c =
     c .refuse .ensures ∙ ap (refused 27) e ∙ sym (stops _ _ (place-found _ e (c .before .if1 .taken)))
 
 twin-role-requires : tie.Need-twin-role-requires
-twin-role-requires c κs = search needs
+twin-role-requires c κs = tt
 
 refuse-requires-2 : tie.Need-refuse-requires-2
-refuse-requires-2 c κs = search needs
+refuse-requires-2 c κs = tt
 
 returns-2 : tie.Need-returns-2
 unfolding ordinary effective empty-role twin-role closed-checks
@@ -36,10 +36,10 @@ returns-2 c =
     ∙ stops _ _ (place-found _ (b .twin-role .ensures) (c .before .if2 .taken)))
 
 pair-role-requires : tie.Need-pair-role-requires
-pair-role-requires c κs = search needs
+pair-role-requires c κs = tt
 
 refuse-requires-3 : tie.Need-refuse-requires-3
-refuse-requires-3 c κs = search needs
+refuse-requires-3 c κs = tt
 
 returns-3 : tie.Need-returns-3
 unfolding ordinary effective empty-role twin-role closed-checks

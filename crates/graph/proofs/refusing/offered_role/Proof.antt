@@ -26,13 +26,13 @@ abbrev μ-loop : tie.MeasureT-loop
 μ-loop roles sets a b rest₀ rest = rest
 
 difference-requires : tie.Need-difference-requires Inv-loop μ-loop
-difference-requires c κs = search needs
+difference-requires c κs = tt
 
 loop-holds : tie.Need-loop-holds Inv-loop μ-loop
 loop-holds c = rw (c .difference .ensures) (starts _ _ (difference-lt role-count _ _ (search needs)))
 
 first-requires : tie.Need-first-requires Inv-loop μ-loop
-first-requires c κs = search needs
+first-requires c κs = tt
 
 role-lt : (c : tie.After-first Inv-loop μ-loop) → c .first .result < role-count
 role-lt c = visit-lt (c .before .before .loop .inv) (c .before .loop-test .taken) (c .first .ensures)
@@ -47,7 +47,7 @@ element-copy-out-holds-both : tie.Need-element-copy-out-holds-both Inv-loop μ-l
 element-copy-out-holds-both c = role-lt c
 
 holds-both-requires : tie.Need-holds-both-requires Inv-loop μ-loop
-holds-both-requires c κs = search needs
+holds-both-requires c κs = tt
 
 returns : tie.Need-returns Inv-loop μ-loop
 unfolding at effective offered-role
@@ -57,7 +57,7 @@ returns c =
     ∙ among-ordinary _ _
 
 without-lowest-requires : tie.Need-without-lowest-requires Inv-loop μ-loop
-without-lowest-requires c κs = search needs
+without-lowest-requires c κs = tt
 
 loop-less : tie.Need-loop-less Inv-loop μ-loop
 loop-less c =

@@ -32,25 +32,25 @@ abbrev μ-roles : tie.MeasureT-roles
 μ-roles roles sets conflicts place₀ rest₀ place rest = rest
 
 difference-requires : tie.Need-difference-requires Inv-loop μ-loop Inv-roles μ-roles
-difference-requires c κs = search needs
+difference-requires c κs = tt
 
 roles-holds : tie.Need-roles-holds Inv-loop μ-loop Inv-roles μ-roles
 roles-holds c = (search needs, rw (c .difference .ensures) (starts _ _ (difference-lt role-count _ _ (search needs))))
 
 first-requires : tie.Need-first-requires Inv-loop μ-loop Inv-roles μ-roles
-first-requires c κs = search needs
+first-requires c κs = tt
 
 cast-i : tie.Need-cast-i Inv-loop μ-loop Inv-roles μ-roles
 cast-i c = let l = visit-lt (c .before .before .roles .inv .1) (c .before .roles-test .taken) (c .first .ensures) in search needs
 
 entry-requires : tie.Need-entry-requires Inv-loop μ-loop Inv-roles μ-roles
-entry-requires c κs = search needs
+entry-requires c κs = tt
 
 loop-holds : tie.Need-loop-holds Inv-loop μ-loop Inv-roles μ-roles
 loop-holds c = (c .before .before .before .before .roles .inv .0, starts _ _ (search needs))
 
 first-requires-2 : tie.Need-first-requires-2 Inv-loop μ-loop Inv-roles μ-roles
-first-requires-2 c κs = search needs
+first-requires-2 c κs = tt
 
 privilege-lt : (c : tie.After-first2 Inv-loop μ-loop Inv-roles μ-roles) → c .first2 .result < role-count
 privilege-lt c = visit-lt (c .before .before .loop .inv .1) (c .before .loop-test .taken) (c .first2 .ensures)
@@ -59,7 +59,7 @@ cast-j : tie.Need-cast-j Inv-loop μ-loop Inv-roles μ-roles
 cast-j c = let l = privilege-lt c in search needs
 
 without-lowest-requires : tie.Need-without-lowest-requires Inv-loop μ-loop Inv-roles μ-roles
-without-lowest-requires c κs = search needs
+without-lowest-requires c κs = tt
 
 mul-if1 : tie.Need-mul-if1 Inv-loop μ-loop Inv-roles μ-roles
 mul-if1 c = let l = privilege-lt (c .before) in search needs
@@ -83,7 +83,7 @@ loop-again c =
     (z, goes-on s some e d (partner-none _ s some e d (c .if1 .left)))
 
 without-lowest-requires-2 : tie.Need-without-lowest-requires-2 Inv-loop μ-loop Inv-roles μ-roles
-without-lowest-requires-2 c κs = search needs
+without-lowest-requires-2 c κs = tt
 
 roles-less : tie.Need-roles-less Inv-loop μ-loop Inv-roles μ-roles
 roles-less c =

@@ -13,13 +13,13 @@ cast-j : tie.Need-cast-j
 cast-j c = search needs
 
 entry-requires : tie.Need-entry-requires
-entry-requires c κs = search needs
+entry-requires c κs = tt
 
 entry-requires-2 : tie.Need-entry-requires-2
-entry-requires-2 c κs = search needs
+entry-requires-2 c κs = tt
 
 included-requires : tie.Need-included-requires
-included-requires c κs = search needs
+included-requires c κs = tt
 
 returns : tie.Need-returns
 returns c = c .included .ensures ∙ ap₂ included (c .before .before .before .entry .ensures) (c .before .entry2 .ensures)

@@ -20,13 +20,13 @@ abbrev μ-loop : tie.MeasureT-loop
 μ-loop roles sets rest₀ rest = rest
 
 difference-requires : tie.Need-difference-requires Inv-loop μ-loop
-difference-requires c κs = search needs
+difference-requires c κs = tt
 
 loop-holds : tie.Need-loop-holds Inv-loop μ-loop
 loop-holds c = rw (c .difference .ensures) (starts _ _ (difference-lt role-count _ _ (search needs)))
 
 first-requires : tie.Need-first-requires Inv-loop μ-loop
-first-requires c κs = search needs
+first-requires c κs = tt
 
 role-lt : (c : tie.After-first Inv-loop μ-loop) → c .first .result < role-count
 role-lt c = visit-lt (c .before .before .loop .inv) (c .before .loop-test .taken) (c .first .ensures)
@@ -35,7 +35,7 @@ cast-i : tie.Need-cast-i Inv-loop μ-loop
 cast-i c = let l = role-lt c in search needs
 
 without-lowest-requires : tie.Need-without-lowest-requires Inv-loop μ-loop
-without-lowest-requires c κs = search needs
+without-lowest-requires c κs = tt
 
 mul-has-set : tie.Need-mul-has-set Inv-loop μ-loop
 mul-has-set c = let l = role-lt (c .before) in search needs
@@ -44,7 +44,7 @@ element-copy-out-has-set : tie.Need-element-copy-out-has-set Inv-loop μ-loop
 element-copy-out-has-set c = role-lt (c .before)
 
 has-set-requires : tie.Need-has-set-requires Inv-loop μ-loop
-has-set-requires c κs = search needs
+has-set-requires c κs = tt
 
 returns : tie.Need-returns Inv-loop μ-loop
 unfolding at effective twin-role

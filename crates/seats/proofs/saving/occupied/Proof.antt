@@ -1,0 +1,80 @@
+-- `seats::saving::occupied` meets its contract: of the seats visited, those that have roles are collected.
+-- Assumes nothing.
+use borrow.Author.Needs.{needs}
+use mathlib.Core.Bool.{Bool}
+use mathlib.Core.Path.{_≡_, refl, ap, ap₂, _∙_}
+use Prim.Native.Nat.{ℕ, _+_, _-_, _≤_, _<_}
+use native.Mathlib.Numerals.{add-one}
+use native.Mathlib.Omega.{arith}
+use lib.Dec.{ltb}
+use borrow.Author.Tests.{lt-ltb}
+use Rattle.sets.specs.Sets.{single, when, union, collect}
+use Rattle.graph.specs.Tables.{at}
+use Rattle.seats.proofs.Stores.{filled}
+use Rattle.seats.proofs.saving.occupied.Statement.{statement}
+use Rattle.seats.proofs.saving.occupied.Tie as tie
+
+-- With one more number looked at, the collected ones are those of before and, where it passes, that number.
+grown : (f : ℕ → Bool) (i : ℕ) {found one next : ℕ} → i < 64 → found ≡ collect i f → one ≡ when (f i) (when (ltb i 64) (single i)) → next ≡ union one found → next ≡ collect (i + 1) f
+unfolding collect when
+grown f i h e o q = rw add-one (q ∙ ap₂ union (rw (lt-ltb i 64 h) at o) e)
+
+abbrev Inv-loop : tie.InvT-loop
+Inv-loop seats found₀ i₀ found i = (i ≤ 64) × (found ≡ collect i (filled seats))
+
+abbrev μ-loop : tie.MeasureT-loop
+μ-loop seats found₀ i₀ found i = 64 - i
+
+loop-holds : tie.Need-loop-holds Inv-loop μ-loop
+unfolding collect
+loop-holds c = (search needs, refl)
+
+mul-when : tie.Need-mul-when Inv-loop μ-loop
+mul-when c = search needs
+
+element-copy-out-when : tie.Need-element-copy-out-when Inv-loop μ-loop
+element-copy-out-when c = search needs
+
+single-requires : tie.Need-single-requires Inv-loop μ-loop
+single-requires c κs = search needs
+
+when-requires : tie.Need-when-requires Inv-loop μ-loop
+when-requires c κs = search needs
+
+union-requires : tie.Need-union-requires Inv-loop μ-loop
+union-requires c κs = search needs
+
+add-i : tie.Need-add-i Inv-loop μ-loop
+add-i c = search needs
+
+loop-less : tie.Need-loop-less Inv-loop μ-loop
+loop-less c = search needs
+
+loop-again : tie.Need-loop-again Inv-loop μ-loop
+unfolding at
+loop-again c =
+    let b = c .before .before .before .before in
+    let f = filled (b .before .before .args .seats .now) in
+    (search needs, grown f _ (b .loop-test .taken) (b .before .loop .inv .1) (c .before .when .ensures ∙ ap (when (f (b .before .loop .i))) (c .before .before .single .ensures)) (c .union .ensures))
+
+returns : tie.Need-returns Inv-loop μ-loop
+returns c =
+    let e : c .before .loop .i ≡ 64 = omega arith in
+    c .before .loop .inv .1 ∙ ap (λ (k : ℕ). collect k (filled (c .before .before .args .seats .now))) e
+
+pub occupied-spec : {M : Type 1} → statement M
+occupied-spec =
+    tie.close
+    (tie.spec
+    Inv-loop
+    μ-loop
+    loop-holds
+    mul-when
+    element-copy-out-when
+    single-requires
+    when-requires
+    union-requires
+    add-i
+    loop-less
+    loop-again
+    returns)

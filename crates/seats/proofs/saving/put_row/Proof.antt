@@ -1,0 +1,69 @@
+-- `seats::saving::put_row` meets its contract: the conflicts with the privileges visited are written, and those with `rest` are left.
+-- Assumes nothing.
+use borrow.Author.Needs.{needs}
+use Prim.Native.Nat.{_<_, _^_}
+use Rattle.sets.proofs.Walks.{next-lt, next-falls}
+use Rattle.seats.specs.Images.{entry-bytes}
+use Rattle.seats.specs.ImageWork.{row-entries}
+use Rattle.seats.proofs.Writing.{Writing, writing-start, writing-length}
+use Rattle.seats.proofs.MemberEntries.{member-room, member-written, members-written}
+use Rattle.seats.proofs.saving.put_row.Statement.{statement}
+use Rattle.seats.proofs.saving.put_row.Tie as tie
+
+abbrev Inv-loop : tie.InvT-loop
+Inv-loop buffer₀ place₀ lower row at₀ rest₀ buffer place rest = (rest < 2 ^ 64) × Writing buffer₀ place₀ (entry-bytes 1 (row-entries lower row)) buffer place (entry-bytes 1 (row-entries lower rest))
+
+abbrev μ-loop : tie.MeasureT-loop
+μ-loop buffer₀ place₀ lower row at₀ rest₀ buffer place rest = rest
+
+loop-holds : tie.Need-loop-holds Inv-loop μ-loop
+loop-holds c = (search needs, writing-start _ _ _ (c .before .pre))
+
+lowest-member-requires : tie.Need-lowest-member-requires Inv-loop μ-loop
+lowest-member-requires c κs = search needs
+
+cast-higher : tie.Need-cast-higher Inv-loop μ-loop
+cast-higher c = search needs
+
+put-entry-requires : tie.Need-put-entry-requires Inv-loop μ-loop
+put-entry-requires c κs =
+    let b = c .before in
+    member-room 1 (λ n. record { key = b .before .before .before .before .args .lower; value = n }) (b .before .before .loop .inv .0) (b .before .loop-test .taken) (b .lowest-member .ensures) (b .before .before .loop .inv .1)
+
+without-lowest-requires : tie.Need-without-lowest-requires Inv-loop μ-loop
+without-lowest-requires c κs = search needs
+
+loop-less : tie.Need-loop-less Inv-loop μ-loop
+loop-less c =
+    let b = c .before .before .before .before .before in
+    rw (c .without-lowest .ensures) (next-falls 64 _ (b .before .before .loop .inv .0) (b .before .loop-test .taken))
+
+loop-again : tie.Need-loop-again Inv-loop μ-loop
+loop-again c =
+    let b = c .before .before .before .before .before in (
+      rw (c .without-lowest .ensures) (next-lt 64 _ (b .before .before .loop .inv .0)),
+      member-written 1 (λ n. record { key = b .before .before .before .before .args .lower; value = n }) (b .before .before .loop .inv .0) (b .before .loop-test .taken) (b .lowest-member .ensures) (b .before .before .loop .inv .1)
+          (c .without-lowest .ensures) (c .before .before .before .put-entry .ensures),
+    )
+
+same-length : tie.Need-same-length Inv-loop μ-loop
+same-length c = writing-length (c .before .loop .inv .1)
+
+returns : tie.Need-returns Inv-loop μ-loop
+returns c = members-written 1 _ (c .loop-test .left) (c .before .loop .inv .1)
+
+pub put-row-spec : {M : Type 1} → statement M
+put-row-spec =
+    tie.close
+    (tie.spec
+    Inv-loop
+    μ-loop
+    loop-holds
+    lowest-member-requires
+    cast-higher
+    put-entry-requires
+    without-lowest-requires
+    loop-less
+    loop-again
+    same-length
+    returns)

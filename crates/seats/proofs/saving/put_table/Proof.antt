@@ -1,0 +1,87 @@
+-- `seats::saving::put_table` meets its contract: the entries of the keys visited are written, and those of `rest` are left.
+-- Assumes nothing.
+use borrow.Author.Needs.{needs}
+use Prim.Native.Nat.{_<_, _^_}
+use Rattle.sets.proofs.Walks.{lowest-below, next-lt, next-falls}
+use Rattle.graph.specs.Tables.{at}
+use Rattle.seats.specs.Images.{entry-bytes}
+use Rattle.seats.specs.ImageWork.{table-entries}
+use Rattle.seats.proofs.Listing.{valued}
+use Rattle.seats.proofs.Writing.{Writing, writing-start, writing-length}
+use Rattle.seats.proofs.MemberEntries.{member-room, member-written, members-written}
+use Rattle.seats.proofs.saving.put_table.Statement.{statement}
+use Rattle.seats.proofs.saving.put_table.Tie as tie
+
+abbrev Inv-loop : tie.InvT-loop
+Inv-loop buffer₀ place₀ keys table at₀ rest₀ buffer place rest = (rest < 2 ^ 64) × Writing buffer₀ place₀ (entry-bytes 8 (table-entries keys table)) buffer place (entry-bytes 8 (table-entries rest table))
+
+abbrev μ-loop : tie.MeasureT-loop
+μ-loop buffer₀ place₀ keys table at₀ rest₀ buffer place rest = rest
+
+loop-holds : tie.Need-loop-holds Inv-loop μ-loop
+loop-holds c = (search needs, writing-start _ _ _ (c .before .pre))
+
+lowest-member-requires : tie.Need-lowest-member-requires Inv-loop μ-loop
+lowest-member-requires c κs = search needs
+
+key-lt : (c : tie.After-lowest-member Inv-loop μ-loop) → c .lowest-member .result < 64
+key-lt c = rw (c .lowest-member .ensures) (lowest-below 64 _ (c .before .before .loop .inv .0) (c .before .loop-test .taken))
+
+cast-i : tie.Need-cast-i Inv-loop μ-loop
+cast-i c = search needs
+
+cast-put-entry : tie.Need-cast-put-entry Inv-loop μ-loop
+cast-put-entry c = let l = key-lt (c .before) in search needs
+
+mul-put-entry : tie.Need-mul-put-entry Inv-loop μ-loop
+mul-put-entry c = search needs
+
+element-copy-out-put-entry : tie.Need-element-copy-out-put-entry Inv-loop μ-loop
+element-copy-out-put-entry c = key-lt (c .before)
+
+put-entry-requires : tie.Need-put-entry-requires Inv-loop μ-loop
+put-entry-requires c κs =
+    let b = c .before .before in
+    member-room 8 (valued (at (b .before .before .before .before .args .table .now))) (b .before .before .loop .inv .0) (b .before .loop-test .taken) (b .lowest-member .ensures) (b .before .before .loop .inv .1)
+
+without-lowest-requires : tie.Need-without-lowest-requires Inv-loop μ-loop
+without-lowest-requires c κs = search needs
+
+loop-less : tie.Need-loop-less Inv-loop μ-loop
+loop-less c =
+    let b = c .before .before .before .before .before .before in
+    rw (c .without-lowest .ensures) (next-falls 64 _ (b .before .before .loop .inv .0) (b .before .loop-test .taken))
+
+loop-again : tie.Need-loop-again Inv-loop μ-loop
+unfolding at
+loop-again c =
+    let b = c .before .before .before .before .before .before in (
+      rw (c .without-lowest .ensures) (next-lt 64 _ (b .before .before .loop .inv .0)),
+      member-written 8 (valued (at (b .before .before .before .before .args .table .now))) (b .before .before .loop .inv .0) (b .before .loop-test .taken) (b .lowest-member .ensures) (b .before .before .loop .inv .1)
+          (c .without-lowest .ensures) (c .before .before .before .put-entry .ensures),
+    )
+
+same-length : tie.Need-same-length Inv-loop μ-loop
+same-length c = writing-length (c .before .loop .inv .1)
+
+returns : tie.Need-returns Inv-loop μ-loop
+returns c = members-written 8 _ (c .loop-test .left) (c .before .loop .inv .1)
+
+pub put-table-spec : {M : Type 1} → statement M
+put-table-spec =
+    tie.close
+    (tie.spec
+    Inv-loop
+    μ-loop
+    loop-holds
+    lowest-member-requires
+    cast-i
+    cast-put-entry
+    mul-put-entry
+    element-copy-out-put-entry
+    put-entry-requires
+    without-lowest-requires
+    loop-less
+    loop-again
+    same-length
+    returns)

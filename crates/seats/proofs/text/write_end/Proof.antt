@@ -1,0 +1,68 @@
+-- `text::write_end` meets its contract: the word end and its tail fill the buffer's front where there is room.
+-- Assumes nothing.
+use borrow.Author.Needs.{needs}
+use mathlib.Core.List.{[], _∷_}
+use native.Mathlib.Omega.{arith}
+use Rattle.seats.specs.Reading.{read-filled}
+use Rattle.seats.proofs.Putting.{and-then, end-joined, line-filled, line-unfilled}
+use Rattle.seats.proofs.text.write_end.Statement.{statement}
+use Rattle.seats.proofs.text.write_end.Tie as tie
+
+width-requires : tie.Need-width-requires
+width-requires c κs = search needs
+
+width-requires-2 : tie.Need-width-requires-2
+width-requires-2 c κs = search needs
+
+add-if1 : tie.Need-add-if1
+add-if1 c = search needs
+
+add-if1-2 : tie.Need-add-if1-2
+add-if1-2 c = search needs
+
+returns : tie.Need-returns
+unfolding read-filled
+returns c =
+    let s = c .before .before .before .before .args in
+    line-unfilled (s .buffer .now) _ (101 ∷ 110 ∷ 100 ∷ []) _ _ (end-joined (s .count) (s .edges)) (omega arith)
+
+put-requires : tie.Need-put-requires
+put-requires c κs = search needs
+
+put-requires-2 : tie.Need-put-requires-2
+put-requires-2 c κs = search needs
+
+put-requires-3 : tie.Need-put-requires-3
+put-requires-3 c κs = search needs
+
+tail-requires : tie.Need-tail-requires
+tail-requires c κs = search needs
+
+same-length : tie.Need-same-length
+same-length c = search needs
+
+returns-2 : tie.Need-returns-2
+unfolding read-filled
+returns-2 c =
+    let d = c .before .before .before .before .before .before in
+    let b = d .before .before .before .before in
+    let a = b .before .before .before .before in
+    let s = a .before .before .before .before .before .before .args in
+    line-filled (s .buffer .now) _ (101 ∷ 110 ∷ 100 ∷ []) _ _ (end-joined (s .count) (s .edges)) (omega arith)
+    (and-then (a .put .ensures) (and-then (b .put2 .ensures) (and-then (d .put3 .ensures) (c .before .before .tail .ensures))))
+
+pub write-end-spec : {M : Type 1} → statement M
+write-end-spec =
+    tie.close
+    (tie.spec
+    width-requires
+    width-requires-2
+    add-if1
+    add-if1-2
+    returns
+    put-requires
+    put-requires-2
+    put-requires-3
+    tail-requires
+    same-length
+    returns-2)

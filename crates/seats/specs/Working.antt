@@ -1,0 +1,25 @@
+-- What the contracts of private functions speak of: the fields of a record by themselves, and text put into a buffer.
+use mathlib.Core.List.{List, [], _∷_, _++_}
+use mathlib.Core.Path.{_≡_}
+use Prim.Native.Nat.{ℕ, _+_, _*_}
+use lib.ListN.{length, getD}
+use lib.Seq.{sets}
+use Rattle.seats.specs.Records.{Fields}
+use Rattle.seats.specs.Tape.{digits, space, line-feed}
+
+-- The little-endian number of the four bytes at place i, written out.
+abbrev pub quad-of : List ℕ → ℕ → ℕ
+quad-of l i = getD l i 0 + 256 * getD l (i + 1) 0 + 65536 * getD l (i + 2) 0 + 16777216 * getD l (i + 3) 0
+
+-- The fields of a record beside its kind.
+abbrev pub fields-of : ℕ → ℕ → ℕ → ℕ → ℕ → Fields
+fields-of a b x y z = record { a = a; b = b; x = x; y = y; z = z }
+
+-- Two numbers, each behind a space, and a line feed.
+abbrev pub tail-of : ℕ → ℕ → List ℕ
+tail-of x y = space ∷ (digits x ++ (space ∷ (digits y ++ (line-feed ∷ []))))
+
+-- The text w put at place i of the buffer l leaves the buffer m, and j is the place behind the text.
+pub record Put (l : List ℕ) (i : ℕ) (w m : List ℕ) (j : ℕ) : Type 0 where
+  pub text : m ≡ sets l i w
+  pub next : j ≡ i + length w

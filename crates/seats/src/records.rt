@@ -1,0 +1,130 @@
+// Records of 32 bytes: what any bytes decode to.
+ghost use mathlib.Core.Path.{_≡_};
+ghost use mathlib.Core.Bool.{cond, _&&_};
+ghost use mathlib.Core.List.{[], _∷_};
+ghost use Prim.Native.Nat.{_+_, _≤_, _<_};
+ghost use lib.ListN.{length, getD};
+ghost use lib.Dec.{leb};
+ghost use Rattle.graph.specs.Reading.{read-change};
+ghost use Rattle.seats.specs.Bytes.{number-at};
+ghost use Rattle.seats.specs.Calls.{change};
+ghost use Rattle.seats.specs.Records.{malformed, well-formed, all-empty, kinds, decode};
+ghost use Rattle.seats.specs.Reading.{read-call, read-decoded};
+ghost use Rattle.seats.specs.Working.{quad-of, fields-of};
+use crate::Call;
+use crate::Decoded;
+use crate::Seat;
+use crate::Step;
+use graph::Change;
+use graph::Privilege;
+use graph::Role;
+
+// A byte as a word, with its bound.
+fn wide(x: u8) -> u64
+    ensures { λ r. ⌜ (r ≡ x) × (r < 256) ⌝ }
+{
+    x as u64
+}
+
+// The little-endian number of the four bytes at place i.
+fn quad(bytes: &[u8], i: usize) -> u64
+    requires { ⌜ i + 4 ≤ length (now bytes) ⌝ }
+    ensures { λ r. ⌜ (r ≡ quad-of (now (bytes .entry)) i) × (r < 4294967296) ⌝ }
+{
+    wide(bytes[i])
+        + 256 * wide(bytes[i + 1])
+        + 65536 * wide(bytes[i + 2])
+        + 16777216 * wide(bytes[i + 3])
+}
+
+// The little-endian number of the eight bytes at place i.
+fn word(bytes: &[u8], i: usize) -> u64
+    requires { ⌜ i + 8 ≤ length (now bytes) ⌝ }
+    ensures { λ r. ⌜ r ≡ number-at 8 i (now (bytes .entry)) ⌝ }
+{
+    quad(bytes, i) + 4294967296 * quad(bytes, i + 4)
+}
+
+// The little-endian number of bytes 3 to 7, which is zero where each of them is.
+fn spare(bytes: &[u8]) -> u64
+    requires { ⌜ 8 ≤ length (now bytes) ⌝ }
+    ensures { λ r. ⌜ r ≡ number-at 5 3 (now (bytes .entry)) ⌝ }
+{
+    quad(bytes, 3) + 4294967296 * wide(bytes[7])
+}
+
+// Whether three sets are empty.
+fn unused(x: u64, y: u64, z: u64) -> bool
+    ensures { λ r. ⌜ r ≡ all-empty (x ∷ y ∷ z ∷ []) ⌝ }
+{
+    if x != 0 {
+        return false;
+    }
+    if y != 0 {
+        return false;
+    }
+    z == 0
+}
+
+// The call, where b is no more than its kind allows and the sets that it does not name are empty.
+fn formed(b: u8, most: u8, rest: bool, call: Call) -> Decoded
+    ensures { λ r. ⌜ read-decoded r ≡ cond (leb b most && rest) (well-formed (read-call call)) malformed ⌝ }
+{
+    if most < b {
+        return Decoded::Malformed;
+    }
+    if rest {
+        Decoded::WellFormed(Step { call })
+    } else {
+        Decoded::Malformed
+    }
+}
+
+// The change of the graph, likewise.
+fn changed(b: u8, most: u8, rest: bool, edit: Change) -> Decoded
+    ensures { λ r. ⌜ read-decoded r ≡ cond (leb b most && rest) (well-formed (change (read-change edit))) malformed ⌝ }
+{
+    formed(b, most, rest, Call::Change(edit))
+}
+
+// What a kind makes of the fields beside it.
+fn named(kind: u8, a: u8, b: u8, x: u64, y: u64, z: u64) -> Decoded
+    ensures { λ r. ⌜ read-decoded r ≡ getD (malformed ∷ kinds (fields-of a b x y z)) kind malformed ⌝ }
+{
+    let none = unused(x, y, z);
+    match kind {
+        1 => changed(b, 0, true, Change::AddByPlace(Role(a), x, y, z)),
+        2 => changed(b, 0, unused(0, y, z), Change::AddByPrivileges(Role(a), x)),
+        3 => changed(b, 1, none, Change::RemoveRole(Role(a), b)),
+        4 => changed(b, 255, none, Change::Grant(Role(a), Privilege(b))),
+        5 => changed(b, 255, none, Change::Withdraw(Role(a), Privilege(b))),
+        6 => changed(b, 255, none, Change::AddEdge(Role(a), Role(b))),
+        7 => changed(b, 255, none, Change::RemoveEdge(Role(a), Role(b))),
+        8 => formed(b, 255, none, Call::Declare(Privilege(a), Privilege(b))),
+        9 => formed(b, 255, none, Call::Lift(Privilege(a), Privilege(b))),
+        10 => formed(b, 255, none, Call::Assign(Seat(a), Role(b))),
+        11 => formed(b, 255, none, Call::Unassign(Seat(a), Role(b))),
+        12 => formed(b, 255, none, Call::Ask(Seat(a), Privilege(b))),
+        0 | 13..=255 => Decoded::Malformed,
+    }
+}
+
+// What any bytes decode to.
+pub fn decode(bytes: &[u8]) -> Decoded
+    ensures { λ r. ⌜ read-decoded r ≡ decode (now (bytes .entry)) ⌝ }
+{
+    if bytes.len() != 32 {
+        return Decoded::Malformed;
+    }
+    if spare(bytes) != 0 {
+        return Decoded::Malformed;
+    }
+    named(
+        bytes[0],
+        bytes[1],
+        bytes[2],
+        word(bytes, 8),
+        word(bytes, 16),
+        word(bytes, 24),
+    )
+}

@@ -1,0 +1,175 @@
+// Saving: the image of a state, written to the front of a lent buffer.
+ghost use mathlib.Core.Path.{_≡_};
+ghost use mathlib.Core.Bool.{not};
+ghost use mathlib.Core.List.{_∷_};
+ghost use Prim.Native.Nat.{_+_, _≤_, _<_};
+ghost use lib.ListN.{length};
+ghost use lib.Dec.{eqb};
+ghost use Rattle.sets.specs.Sets.{empty, collect};
+ghost use Rattle.graph.specs.Tables.{at};
+ghost use Rattle.graph.specs.Graph.{privilege-count};
+ghost use Rattle.graph.specs.Conflicts.{conflict};
+ghost use Rattle.graph.specs.Reading.{graph-of};
+ghost use Rattle.seats.specs.Seats.{seat-count};
+ghost use Rattle.seats.specs.Bytes.{bytes-of};
+ghost use Rattle.seats.specs.Images.{set-bytes, privilege-bytes, entry-bytes, distance, trailer};
+ghost use Rattle.seats.specs.Saving.{save};
+ghost use Rattle.seats.specs.Reading.{read-filled};
+ghost use Rattle.seats.specs.ImageWork.{Wrote, table-entries, row-entries, pair-entries};
+use crate::Filled;
+use graph::Refusal;
+
+// MinRole and MaxRole, as a set.
+pub const ENDS: u64 = 3;
+
+// The n bytes of x, little-endian, at a place; gives the place behind them.
+fn put_number(buffer: &mut [u8], at: usize, n: usize, x: u64) -> usize
+    requires { ⌜ at + n ≤ length (now buffer) ⌝ }
+    ensures { λ r. ⌜ Wrote (now (buffer .entry)) at (bytes-of n x) (now (buffer .exit)) r ⌝ }
+{
+    let mut rest = x;
+    let mut i: usize = 0;
+    while i < n {
+        buffer[at + i] = (rest % 256) as u8;
+        rest = rest / 256;
+        i += 1;
+    }
+    at + n
+}
+
+// An entry: its key, and the n bytes of its value.
+fn put_entry(buffer: &mut [u8], at: usize, n: usize, key: u8, value: u64) -> usize
+    requires { ⌜ at + 1 + n ≤ length (now buffer) ⌝ }
+    ensures { λ r. ⌜ Wrote (now (buffer .entry)) at (key ∷ bytes-of n value) (now (buffer .exit)) r ⌝ }
+{
+    buffer[at] = key;
+    put_number(buffer, at + 1, n, value)
+}
+
+// Each of the keys with its entry of a table: the roles or the seats.
+fn put_table(buffer: &mut [u8], at: usize, keys: u64, table: &[u64; 64]) -> usize
+    requires { ⌜ at + length (entry-bytes set-bytes (table-entries keys (now table))) ≤ length (now buffer) ⌝ }
+    ensures { λ r. ⌜ Wrote (now (buffer .entry)) at (entry-bytes set-bytes (table-entries keys (now (table .entry)))) (now (buffer .exit)) r ⌝ }
+{
+    let mut place = at;
+    let mut rest = keys;
+    while rest != 0 {
+        let k = sets::lowest_member(rest);
+        let i = k as usize;
+        place = put_entry(buffer, place, 8, k as u8, table[i]);
+        rest = sets::without_lowest(rest);
+    }
+    place
+}
+
+// The conflicts of a lower privilege with higher ones.
+fn put_row(buffer: &mut [u8], at: usize, lower: u8, row: u64) -> usize
+    requires { ⌜ at + length (entry-bytes privilege-bytes (row-entries lower row)) ≤ length (now buffer) ⌝ }
+    ensures { λ r. ⌜ Wrote (now (buffer .entry)) at (entry-bytes privilege-bytes (row-entries lower row)) (now (buffer .exit)) r ⌝ }
+{
+    let mut place = at;
+    let mut rest = row;
+    while rest != 0 {
+        let higher = sets::lowest_member(rest) as u64;
+        place = put_entry(buffer, place, 1, lower, higher);
+        rest = sets::without_lowest(rest);
+    }
+    place
+}
+
+// The higher privileges in conflict with a lower one.
+fn row(conflicts: &[u64; 64], lower: usize) -> u64
+    requires { ⌜ lower < privilege-count ⌝ }
+    ensures { λ r. ⌜ r ≡ collect privilege-count (conflict (now (conflicts .entry)) lower) ⌝ }
+{
+    let own = sets::single(lower);
+    let not_higher = sets::union(own, own - 1);
+    sets::difference(conflicts[lower], not_higher)
+}
+
+// How many conflicts are declared.
+fn count_conflicts(conflicts: &[u64; 64]) -> usize
+    ensures { λ r. ⌜ (r ≡ length (pair-entries (now (conflicts .entry)))) × (r ≤ 2016) ⌝ }
+{
+    let mut n: usize = 0;
+    for lower in 0..64usize {
+        let more = sets::size(row(conflicts, lower)) as usize;
+        n = n + more;
+    }
+    n
+}
+
+// The conflicts, row by row.
+fn put_conflicts(buffer: &mut [u8], at: usize, conflicts: &[u64; 64]) -> usize
+    requires { ⌜ at + length (entry-bytes privilege-bytes (pair-entries (now conflicts))) ≤ length (now buffer) ⌝ }
+    ensures { λ r. ⌜ Wrote (now (buffer .entry)) at (entry-bytes privilege-bytes (pair-entries (now (conflicts .entry)))) (now (buffer .exit)) r ⌝ }
+{
+    let mut place = at;
+    for lower in 0..64u8 {
+        let higher = row(conflicts, lower as usize);
+        place = put_row(buffer, place, lower, higher);
+    }
+    place
+}
+
+// The seats that have roles.
+fn occupied(seats: &[u64; 64]) -> u64
+    ensures { λ r. ⌜ r ≡ collect seat-count (λ i. not (eqb (at (now (seats .entry)) i) empty)) ⌝ }
+{
+    let mut found: u64 = 0;
+    for i in 0..64usize {
+        let one = sets::when(seats[i] != 0, sets::single(i));
+        found = sets::union(one, found);
+    }
+    found
+}
+
+// The distance from an image's end back to its start.
+pub fn distance(roles: usize, seats: usize, conflicts: usize) -> usize
+    requires { ⌜ (roles < 256) × (seats < 256) × (conflicts < 65536) ⌝ }
+    ensures { λ r. ⌜ (r ≡ distance roles seats conflicts) × (r < 140000) ⌝ }
+{
+    16 + 9 * roles + 9 * seats + 2 * conflicts
+}
+
+// The trailer.
+fn put_trailer(buffer: &mut [u8], at: usize, roles: usize, seats: usize, conflicts: usize) -> usize
+    requires { ⌜ (at + 8 ≤ length (now buffer)) × (roles < 256) × (seats < 256) × (conflicts < 65536) ⌝ }
+    ensures { λ r. ⌜ Wrote (now (buffer .entry)) at (trailer roles seats conflicts) (now (buffer .exit)) r ⌝ }
+{
+    let far = distance(roles, seats, conflicts);
+    let a = put_number(buffer, at, 4, far as u64);
+    let b = put_number(buffer, a, 1, roles as u64);
+    let c = put_number(buffer, b, 1, seats as u64);
+    put_number(buffer, c, 2, conflicts as u64)
+}
+
+// The image at the buffer's front and its length; refusal 9, before anything is touched, where the buffer is shorter.
+pub fn save<'a>(
+    roles: u64,
+    sets: &'a [u64; 64],
+    conflicts: &'a [u64; 64],
+    seats: &'a [u64; 64],
+    buffer: &mut [u8],
+) -> Filled
+    ensures { λ r. ⌜ (read-filled r, now (buffer .exit)) ≡ save (record { graph = graph-of roles (now (sets .entry)) (now (conflicts .entry)); seats = now (seats .entry) }) (now (buffer .entry)) ⌝ }
+{
+    let ordinary = sets::difference(roles, ENDS);
+    let taken = occupied(seats);
+    let r = sets::size(ordinary) as usize;
+    let s = sets::size(taken) as usize;
+    let c = count_conflicts(conflicts);
+    let length = distance(r, s, c);
+    if buffer.len() < length {
+        return Filled::TooShort(Refusal {
+            number: 9,
+            place: 0,
+        });
+    }
+    let roles_at = put_number(buffer, 0, 8, sets[1]);
+    let conflicts_at = put_table(buffer, roles_at, ordinary, sets);
+    let seats_at = put_conflicts(buffer, conflicts_at, conflicts);
+    let trailer_at = put_table(buffer, seats_at, taken, seats);
+    put_trailer(buffer, trailer_at, r, s, c);
+    Filled::Written(length)
+}

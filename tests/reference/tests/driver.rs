@@ -1,0 +1,233 @@
+//! The driver agrees with the reference itself and catches broken keepers.
+
+use role_reference::compare::{accepted_share, run, Counts, Failure, Keeper};
+use role_reference::generate::{list, shrink, Mix, Step};
+use role_reference::random::{printed_seed, Random};
+use role_reference::reference::Reference;
+
+const CALLS: usize = 60_000;
+const IMAGES: usize = 15_000;
+
+#[test]
+fn reference_agrees_with_itself() {
+    let counts = run::<Reference>(printed_seed(), CALLS, IMAGES);
+    let counts: Counts = counts.unwrap_or_else(|failure| panic!("{failure}"));
+    println!("{counts}");
+    assert!(counts.calls >= CALLS && counts.images >= IMAGES);
+}
+
+#[test]
+fn few_numbers_give_mostly_accepted_calls() {
+    assert!(accepted_share(7, Mix::Few, 50) > 0.5);
+    assert!(accepted_share(7, Mix::Layered, 20) > 0.5);
+}
+
+#[test]
+fn damaged_records_have_all_lengths() {
+    let mut random = Random::new(7);
+    let mut seen = [0; 71];
+    for step in (0..100).flat_map(|_| list(&mut random, Mix::Damaged)) {
+        if let Step::Call(record) = step {
+            seen[record.len()] += 1;
+        }
+    }
+    assert!(seen.iter().all(|count| *count > 0), "{seen:?}");
+}
+
+#[test]
+fn a_short_run_does_not_see_all() {
+    let failure = run::<Reference>(1, 10, 10).expect_err("ten calls see too little");
+    assert!(matches!(failure, Failure::Unseen { .. }));
+}
+
+#[test]
+fn shrinker_finds_the_shortest() {
+    let list: Vec<u32> = (0..1_000).collect();
+    let fails = |part: &[u32]| part.contains(&17) && part.contains(&903);
+    assert_eq!(shrink(&list, fails), [17, 903]);
+    assert_eq!(shrink(&list, |_| true), []);
+    let even =
+        |part: &[u32]| part.len().is_multiple_of(2) && part.contains(&8) && part.contains(&9);
+    assert_eq!(shrink(&list, even), [8, 9]);
+}
+
+// ---- broken keepers ----
+
+const ALWAYS_28: u8 = 0;
+const WRONG_PLACE_OF_29: u8 = 1;
+const SWAPPED_TRAILER: u8 = 2;
+const ALWAYS_YES: u8 = 3;
+const INVENTED_EDGES: u8 = 4;
+const EACH_IMAGE_6: u8 = 5;
+const DRAWS_NOTHING: u8 = 6;
+const REPEATS_FIRST: u8 = 7;
+const WRITES_BEHIND: u8 = 8;
+const CHANGES_ON_REFUSED_LOAD: u8 = 9;
+const PANICS_AT_30: u8 = 10;
+
+/// The reference with one fault.
+struct Broken<const FAULT: u8> {
+    inner: Reference,
+    first: Option<(u8, u8)>,
+}
+
+impl<const FAULT: u8> Broken<FAULT> {
+    fn faulty(&mut self, record: &[u8], answer: (u8, u8)) -> (u8, u8) {
+        let is_ask = record.first() == Some(&12);
+        let first = *self.first.get_or_insert(answer);
+        match (FAULT, answer) {
+            (ALWAYS_28, _) => (28, 0),
+            (WRONG_PLACE_OF_29, (29, place)) => (29, place + 1),
+            (ALWAYS_YES, (0, 0)) if is_ask => (0, 1),
+            (REPEATS_FIRST, _) => first,
+            (PANICS_AT_30, (30, _)) => panic!("the fault of this keeper"),
+            _ => answer,
+        }
+    }
+}
+
+impl<const FAULT: u8> Keeper for Broken<FAULT> {
+    fn fresh() -> Self {
+        Broken {
+            inner: Reference::fresh(),
+            first: None,
+        }
+    }
+
+    fn call(&mut self, record: &[u8]) -> (u8, u8) {
+        let before = self.inner.clone();
+        let answer = Keeper::call(&mut self.inner, record);
+        if FAULT == ALWAYS_28 || FAULT == DRAWS_NOTHING {
+            self.inner = before;
+        }
+        self.faulty(record, answer)
+    }
+
+    fn save(&self) -> Vec<u8> {
+        let mut image = self.inner.save();
+        if FAULT == SWAPPED_TRAILER {
+            let roles = image.len() - 4;
+            image.swap(roles, roles + 1);
+        }
+        image
+    }
+
+    fn load(&mut self, bytes: &[u8]) -> u8 {
+        if FAULT == EACH_IMAGE_6 {
+            return 6;
+        }
+        let number = Keeper::load(&mut self.inner, bytes);
+        if FAULT == CHANGES_ON_REFUSED_LOAD && number == 8 {
+            self.inner = Reference::fresh();
+        }
+        number
+    }
+
+    fn roles(&self) -> u64 {
+        self.inner.roles()
+    }
+
+    fn set(&self, role: u8) -> u64 {
+        Keeper::set(&self.inner, role)
+    }
+
+    fn direct(&self, role: u8) -> u64 {
+        Keeper::direct(&self.inner, role)
+    }
+
+    fn juniors(&self, role: u8) -> u64 {
+        Keeper::juniors(&self.inner, role)
+    }
+
+    fn conflict(&self, privilege: u8) -> u64 {
+        Keeper::conflict(&self.inner, privilege)
+    }
+
+    fn seat(&self, seat: u8) -> u64 {
+        Keeper::seat(&self.inner, seat)
+    }
+
+    fn edge_count(&self) -> u64 {
+        match FAULT {
+            INVENTED_EDGES => u64::from(self.inner.roles().count_ones()) + 1,
+            _ => self.inner.edges().len() as u64,
+        }
+    }
+
+    fn ask(&self, seat: u8, privilege: u8) -> (u8, u8) {
+        match (FAULT, Keeper::ask(&self.inner, seat, privilege)) {
+            (ALWAYS_YES, (0, 0)) => (0, 1),
+            (_, answer) => answer,
+        }
+    }
+
+    fn save_into(&self, buffer: &mut [u8]) -> (u8, usize) {
+        let answer = Keeper::save_into(&self.inner, buffer);
+        if FAULT == WRITES_BEHIND && answer.0 == 0 && answer.1 < buffer.len() {
+            buffer[answer.1] = 0;
+        }
+        answer
+    }
+}
+
+/// The driver's shrunk list and the words about the difference.
+fn caught<const FAULT: u8>() -> (Vec<Step>, String) {
+    let failure = run::<Broken<FAULT>>(printed_seed(), CALLS, IMAGES);
+    let failure = failure.expect_err("the fault is found");
+    println!("{failure}");
+    match failure {
+        Failure::Differs {
+            steps, difference, ..
+        } => (steps, difference.text),
+        Failure::Unseen { .. } => panic!("no difference is found"),
+    }
+}
+
+#[test]
+fn catches_28_to_everything() {
+    let (steps, text) = caught::<ALWAYS_28>();
+    assert_eq!(steps.len(), 1);
+    assert!(
+        text.contains("answer") && text.contains("keeper (28, 0)"),
+        "{text}"
+    );
+}
+
+#[test]
+fn catches_wrong_place_of_29() {
+    let (steps, text) = caught::<WRONG_PLACE_OF_29>();
+    assert!(steps.len() <= 3, "{steps:?}");
+    assert!(
+        text.contains("answer") && text.contains("reference (29, "),
+        "{text}"
+    );
+}
+
+#[test]
+fn catches_swapped_trailer() {
+    let (steps, text) = caught::<SWAPPED_TRAILER>();
+    assert!(steps.len() <= 2, "{steps:?}");
+    assert!(text.contains("saved image"), "{text}");
+}
+
+#[test]
+fn catches_the_worthless_keepers() {
+    assert!(caught::<ALWAYS_YES>().0.len() <= 2);
+    assert!(caught::<INVENTED_EDGES>().0.len() <= 3);
+    assert!(caught::<EACH_IMAGE_6>().0.len() <= 2);
+    assert!(caught::<DRAWS_NOTHING>().0.len() <= 1);
+    assert!(caught::<REPEATS_FIRST>().0.len() <= 2);
+}
+
+#[test]
+fn catches_faults_around_buffers_and_loads() {
+    assert!(caught::<WRITES_BEHIND>().0.len() <= 2);
+    assert!(caught::<CHANGES_ON_REFUSED_LOAD>().0.len() <= 2);
+}
+
+#[test]
+fn catches_a_panic() {
+    let (steps, text) = caught::<PANICS_AT_30>();
+    assert!(steps.len() <= 10, "{steps:?}");
+    assert_eq!(text, "panic");
+}
