@@ -1,5 +1,4 @@
 -- How the code's values are read as the paper's: states, calls, answers, and what filling a buffer answers.
-use Prim.Native.Nat.{ℕ}
 use Rattle.graph.specs.Reading.{graph-of, read-change}
 use Rattle.seats.specs.Seats.{State}
 use Rattle.seats.specs.Calls.{Call, change, declare, lift, assign, unassign, ask, Answer, accepted, answered, refused}
