@@ -20,7 +20,7 @@ use crate::Filled;
 use graph::Refusal;
 
 // MinRole and MaxRole, as a set.
-pub const ENDS: u64 = 3;
+const ENDS: u64 = 3;
 
 // The n bytes of x, little-endian, at a place; gives the place behind them.
 fn put_number(buffer: &mut [u8], at: usize, n: usize, x: u64) -> usize
@@ -125,7 +125,7 @@ fn occupied(seats: &[u64; 64]) -> u64
 }
 
 // The distance from an image's end back to its start.
-pub fn distance(roles: usize, seats: usize, conflicts: usize) -> usize
+fn distance(roles: usize, seats: usize, conflicts: usize) -> usize
     requires { ⌜ (roles < 256) × (seats < 256) × (conflicts < 65536) ⌝ }
     ensures { λ r. ⌜ (r ≡ distance roles seats conflicts) × (r < 140000) ⌝ }
 {
