@@ -1,5 +1,6 @@
 // Closing: a role's effective set is its direct privileges joined with the sets of its juniors. Each role is done once, whatever the number of ways down to it.
 use crate::entries;
+use crate::table;
 ghost use mathlib.Core.Path.{_≡_};
 ghost use Prim.Native.Nat.{ℕ, _<_};
 ghost use lib.Dec.{T};
@@ -58,7 +59,7 @@ fn gather(
 {
     let mut done = before;
     let mut set = 0u64;
-    let mut rest = entries::entry(juniors, r);
+    let mut rest = table::entry(juniors, r);
     while rest != 0 {
         let t = sets::lowest_member(rest) as usize;
         done = close_role(directs, juniors, sets, done, t);

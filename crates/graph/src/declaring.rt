@@ -3,18 +3,21 @@ ghost use mathlib.Core.Path.{_≡_};
 ghost use mathlib.Core.Bool.{cond};
 ghost use mathlib.Core.List.{[], _∷_};
 ghost use Prim.Native.Nat.{min, max};
+ghost use lib.ListN.{set};
 ghost use lib.Dec.{ltb};
 ghost use Rattle.graph.specs.Graph.{privilege-count};
 ghost use Rattle.graph.specs.Conflicts as spec;
 ghost use Rattle.graph.specs.Refusing.{no-privilege-number, pair-of-one, verdict, keep, declare-checks, lift-checks};
 ghost use Rattle.graph.specs.Reading.{graph-of, read-graph, read-verdict, read-outcome};
-use super::entries::entry;
 use super::refusing::offered_role;
 use super::refusing::refuse;
+use crate::Entry;
 use crate::Graph;
 use crate::Outcome;
 use crate::Privilege;
 use crate::Verdict;
+use crate::table::entry;
+use crate::table::store;
 
 // The lower of two privileges.
 fn lower_of(a: Privilege, b: Privilege) -> usize
@@ -39,7 +42,7 @@ fn higher_of(a: Privilege, b: Privilege) -> usize
 }
 
 // Whether the conflict of a and b is declared.
-pub fn is_declared(conflicts: &[u64; 64], a: Privilege, b: Privilege) -> bool
+pub fn is_declared(conflicts: &[u64], a: Privilege, b: Privilege) -> bool
     ensures { λ r. ⌜ r ≡ spec.declared (now (conflicts .entry)) (a .0) (b .0) ⌝ }
 {
     let lower = lower_of(a, b);
@@ -66,8 +69,8 @@ fn judge_pair(a: Privilege, b: Privilege) -> Verdict
 // The refusals of kind 8.
 pub fn judge_declare<'a>(
     roles: u64,
-    sets: &'a [u64; 64],
-    conflicts: &'a [u64; 64],
+    sets: &'a [u64],
+    conflicts: &'a [u64],
     a: Privilege,
     b: Privilege,
 ) -> Verdict
@@ -88,7 +91,7 @@ pub fn judge_declare<'a>(
 }
 
 // The refusals of kind 9.
-pub fn judge_lift(conflicts: &[u64; 64], a: Privilege, b: Privilege) -> Verdict
+pub fn judge_lift(conflicts: &[u64], a: Privilege, b: Privilege) -> Verdict
     ensures { λ r. ⌜ read-verdict r ≡ verdict (lift-checks (graph-of 0 [] (now (conflicts .entry))) (a .0) (b .0)) ⌝ }
 {
     let pair = judge_pair(a, b);
@@ -102,27 +105,24 @@ pub fn judge_lift(conflicts: &[u64; 64], a: Privilege, b: Privilege) -> Verdict
     }
 }
 
-// Puts the conflict of a and b in, where both are privileges.
-pub fn declared(conflicts: &mut [u64; 64], a: Privilege, b: Privilege)
-    ensures { λ _. let C = now (conflicts .entry) in ⌜ now (conflicts .exit) ≡ cond (ltb (max (a .0) (b .0)) privilege-count) (spec.declare C (a .0) (b .0)) C ⌝ }
+// The entry of the lower privilege where the conflict of a and b is declared.
+pub fn declared(conflicts: &[u64], a: Privilege, b: Privilege) -> Entry
+    ensures { λ r. let C = now (conflicts .entry) in ⌜ (r .number ≡ min (a .0) (b .0)) × (set C (r .number) (r .set) ≡ cond (ltb (max (a .0) (b .0)) privilege-count) (spec.declare C (a .0) (b .0)) C) ⌝ }
 {
-    let lower = lower_of(a, b);
+    let number = lower_of(a, b);
     let higher = higher_of(a, b);
-    if higher < 64 {
-        conflicts[lower] = sets::union(conflicts[lower], sets::single(higher));
-    }
+    let set = sets::union(entry(conflicts, number), sets::single(higher));
+    Entry { number, set }
 }
 
-// Takes the conflict of a and b out.
-pub fn lifted(conflicts: &mut [u64; 64], a: Privilege, b: Privilege)
-    ensures { λ _. ⌜ now (conflicts .exit) ≡ spec.lift (now (conflicts .entry)) (a .0) (b .0) ⌝ }
+// The entry of the lower privilege where the conflict of a and b is lifted.
+pub fn lifted(conflicts: &[u64], a: Privilege, b: Privilege) -> Entry
+    ensures { λ r. let C = now (conflicts .entry) in ⌜ (r .number ≡ min (a .0) (b .0)) × (set C (r .number) (r .set) ≡ spec.lift C (a .0) (b .0)) ⌝ }
 {
-    let lower = lower_of(a, b);
+    let number = lower_of(a, b);
     let higher = higher_of(a, b);
-    let partners = entry(conflicts, lower);
-    if lower < 64 {
-        conflicts[lower] = sets::difference(partners, sets::single(higher));
-    }
+    let set = sets::difference(entry(conflicts, number), sets::single(higher));
+    Entry { number, set }
 }
 
 // Kind 8: the conflict of a and b is declared.
@@ -133,7 +133,8 @@ pub fn declare(mut graph: Graph, a: Privilege, b: Privilege) -> Outcome
     let Verdict::Passed = verdict else {
         return Outcome { verdict, graph };
     };
-    declared(&mut graph.conflicts, a, b);
+    let entry = declared(&graph.conflicts, a, b);
+    store(&mut graph.conflicts, entry);
     Outcome { verdict, graph }
 }
 
@@ -145,6 +146,7 @@ pub fn lift(mut graph: Graph, a: Privilege, b: Privilege) -> Outcome
     let Verdict::Passed = verdict else {
         return Outcome { verdict, graph };
     };
-    lifted(&mut graph.conflicts, a, b);
+    let entry = lifted(&graph.conflicts, a, b);
+    store(&mut graph.conflicts, entry);
     Outcome { verdict, graph }
 }

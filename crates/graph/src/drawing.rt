@@ -9,7 +9,7 @@ ghost use Rattle.graph.specs.Drawing.{below, edge, juniors, seniors, edg
 ghost use Rattle.graph.specs.Reading.{drawn-from};
 use crate::Role;
 use crate::entries::copied;
-use crate::entries::entry;
+use crate::table::entry;
 
 // The ordinary roles: those present without the numbers of the end roles.
 pub fn ordinary_roles(roles: u64) -> u64

@@ -6,13 +6,6 @@ ghost use Rattle.sets.specs.Sets.{member, union, difference, when, collect};
 ghost use Rattle.graph.specs.Tables as spec;
 ghost use Rattle.graph.specs.Graph.{role-count};
 
-// Entry n of a table; beyond its end the empty set.
-pub fn entry(table: &[u64], n: usize) -> u64
-    ensures { λ v. ⌜ v ≡ spec.at (now (table .entry)) n ⌝ }
-{
-    if n < table.len() { table[n] } else { 0 }
-}
-
 // The table itself, with its length.
 pub fn copied(table: &[u64; 64]) -> [u64; 64]
     ensures { λ v. ⌜ (v ≡ now (table .entry)) × (length v ≡ 64) ⌝ }

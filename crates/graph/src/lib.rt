@@ -7,6 +7,7 @@ pub mod drawing;
 pub mod editing;
 mod entries;
 pub mod refusing;
+pub mod table;
 
 // A role's number.
 pub struct Role(pub u8);
@@ -19,6 +20,12 @@ pub struct Graph {
     pub roles: u64,
     pub sets: [u64; 64],
     pub conflicts: [u64; 64],
+}
+
+// One entry of a table of sets; the number 64 stands for none.
+pub struct Entry {
+    pub number: usize,
+    pub set: u64,
 }
 
 // A refusal's number and place, as document 01 lists them.

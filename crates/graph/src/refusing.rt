@@ -11,12 +11,12 @@ ghost use Rattle.graph.specs.Conflicts.{holds-both, holds-pair};
 ghost use Rattle.graph.specs.Refusing.{at-or-below, empty-role, twin-role, pair-role, offered-role, refused, verdict, still-below, closed-checks};
 ghost use Rattle.graph.specs.Reading.{drawn-from, graph-of, read-verdict, read-change};
 use super::drawing::lower;
-use super::entries::entry;
 use crate::Change;
 use crate::Privilege;
 use crate::Refusal;
 use crate::Role;
 use crate::Verdict;
+use crate::table::entry;
 
 // MinRole and MaxRole, as a set.
 const ENDS: u64 = 3;
@@ -77,7 +77,7 @@ pub fn twin_role(roles: u64, sets: &[u64; 64]) -> u8
 }
 
 // Whether a set holds both privileges of some declared conflict: one of them is the lower.
-pub fn holds_pair(conflicts: &[u64; 64], s: u64) -> bool
+pub fn holds_pair(conflicts: &[u64], s: u64) -> bool
     ensures { λ r. ⌜ r ≡ holds-pair (now (conflicts .entry)) s ⌝ }
 {
     let mut rest = s;
@@ -85,7 +85,7 @@ pub fn holds_pair(conflicts: &[u64; 64], s: u64) -> bool
         let p = first(rest);
         let i = p as usize;
         rest = sets::without_lowest(rest);
-        if rest & conflicts[i] != 0 {
+        if rest & entry(conflicts, i) != 0 {
             return true;
         }
     }
@@ -126,14 +126,14 @@ fn holds_both(a: Privilege, b: Privilege, s: u64) -> bool
 }
 
 // The lowest ordinary role that holds both privileges of the pair offered.
-pub fn offered_role(roles: u64, sets: &[u64; 64], a: Privilege, b: Privilege) -> u8
+pub fn offered_role(roles: u64, sets: &[u64], a: Privilege, b: Privilege) -> u8
     ensures { λ r. ⌜ r ≡ lowest role-count (offered-role (drawn-from roles (now (sets .entry))) (a .0) (b .0)) ⌝ }
 {
     let mut rest = sets::difference(roles, ENDS);
     while rest != 0 {
         let r = first(rest);
         let i = r as usize;
-        if holds_both(a, b, sets[i]) {
+        if holds_both(a, b, entry(sets, i)) {
             return r;
         }
         rest = sets::without_lowest(rest);

@@ -19,7 +19,7 @@ use Rattle.graph.proofs.close.+close_role+gather.Lts-close_role as clos
 use Rattle.graph.proofs.close.gather.Reads as gather
 use Rattle.graph.proofs.close.gather.Kinds as gather-kinds
 use Rattle.graph.proofs.close.+close_role+gather.Lts-gather as gather-lts
-use Rattle.graph.proofs.entries.entry.Reads as entry-reads
+use Rattle.graph.proofs.table.entry.Reads as entry-reads
 use Rattle.sets.proofs.lowest_member.Reads as lowest-member-reads
 use Rattle.sets.proofs.member.Reads as member-reads
 use Rattle.sets.proofs.single.Reads as single-reads

@@ -6,6 +6,8 @@ use mathlib.Core.Bool.{Bool, cond}
 use mathlib.Core.Path.{_≡_, sym, ap, _∙_}
 use Prim.Native.Nat.{ℕ, _<_, max}
 use native.Mathlib.Omega.{arith}
+use lib.ListN.{set}
+use Rattle.graph.specs.Tables.{stored}
 use Rattle.graph.specs.Graph.{Graph, privilege-count}
 use Rattle.graph.specs.Conflicts.{declare}
 use Rattle.graph.specs.Refusing.{passed, verdict, declare-checks}
@@ -30,6 +32,9 @@ returns c = stays _ _ _ (c .before .before .judge-declare .ensures) (c .enum-tol
 declared-requires : tie.Need-declared-requires
 declared-requires c κs = tt
 
+store-requires : tie.Need-store-requires
+store-requires c κs = tt
+
 -- Two numbers that no check refuses are privileges.
 privileges : (g : Graph) (a b : ℕ) → verdict (declare-checks g a b) ≡ passed → max a b < privilege-count
 unfolding Passes declare-checks
@@ -40,17 +45,22 @@ privileges g a b e =
     omega arith
 
 returns-2 : tie.Need-returns-2
-unfolding read-verdict
+unfolding read-verdict stored
 returns-2 c =
-    let j = c .before .before .before .before in
-    let arg = j .before .before .before .before .args in
-    let told = c .before .before .enum-told .given .1 in
-    let l = privileges (read-graph (arg .t1)) (arg .a .0) (arg .b .0) (sym (j .judge-declare .ensures) ∙ ap read-verdict told) in
+    let m = c .before .before .before .before .before .before in
+    let j = m .before .before in
+    let g = j .before .before .before .before .before .before .args in
+    let told = m .enum-told .given .1 in
+    let l = privileges (read-graph (g .t1)) (g .a .0) (g .b .0) (sym (j .judge-declare .ensures) ∙ ap read-verdict told) in
+    let e = c .before .before .declared .result in
+    let d = c .before .before .declared .ensures in
+    let k : e .number < 64 = omega (arith, d .0) in
     becomes _ _ _ (j .judge-declare .ensures) told
-    (ap (graph-of (arg .t1 .roles) (arg .t1 .sets))
-    (c .declared .ensures ∙ ap (λ (t : Bool). cond t (declare (arg .t1 .conflicts) (arg .a .0) (arg .b .0)) (arg .t1 .conflicts)) (lt-ltb _ _ l)))
+    (ap (graph-of (g .t1 .roles) (g .t1 .sets))
+    (c .store .ensures ∙ ap (λ (t : Bool). cond t (set (g .t1 .conflicts) (e .number) (e .set)) (g .t1 .conflicts)) (lt-ltb _ _ k)
+    ∙ d .1 ∙ ap (λ (t : Bool). cond t (declare (g .t1 .conflicts) (g .a .0) (g .b .0)) (g .t1 .conflicts)) (lt-ltb _ _ l)))
 
 pub declare-spec : {M : Type 1} → statement M
 declare-spec =
     tie.close
-    (tie.spec judge-declare-requires enum-told enum-told-2 returns declared-requires returns-2)
+    (tie.spec judge-declare-requires enum-told enum-told-2 returns declared-requires store-requires returns-2)

@@ -1,16 +1,20 @@
--- `graph::declaring::declared` meets its contract: the code puts the higher privilege into the entry of the lower one.
+-- `graph::declaring::declared` meets its contract: the higher privilege is put into the entry of the lower one, and a number beyond the privileges puts nothing in.
 -- Assumes nothing.
 use borrow.Author.Needs.{needs}
 use borrow.Author.Tests.{lt-ltb, le-ltb}
-use mathlib.Core.Bool.{Bool}
-use mathlib.Core.Path.{ap, _∙_}
-use Prim.Native.Nat.{_<_}
+use mathlib.Core.Bool.{cond}
+use mathlib.Core.List.{List}
+use mathlib.Core.Path.{_≡_, ap, ap₂, _∙_}
+use Prim.Native.Nat.{ℕ}
+use native.Mathlib.Decide.{decLt}
 use native.Mathlib.Omega.{arith}
+use lib.Dec.{ltb}
 use lib.ListN.{set}
+use lib.Seq.{set-getD}
 use Rattle.sets.specs.Sets.{single, union, when}
 use Rattle.graph.specs.Tables.{at, put}
-use Rattle.graph.specs.Graph.{privilege-count}
 use Rattle.graph.specs.Conflicts.{declare}
+use Rattle.graph.proofs.Stores.{union-empty}
 use Rattle.graph.proofs.declaring.declared.Statement.{statement}
 use Rattle.graph.proofs.declaring.declared.Tie as tie
 
@@ -20,14 +24,8 @@ lower-of-requires c κs = tt
 higher-of-requires : tie.Need-higher-of-requires
 higher-of-requires c κs = tt
 
-lower-lt : (c : tie.Then1) → c .before .before .lower-of .result < privilege-count
-lower-lt c = omega (arith, c .before .before .lower-of .ensures, c .before .higher-of .ensures, c .if1 .taken)
-
-mul-union : tie.Need-mul-union
-mul-union c = let l = lower-lt c in search needs
-
-element-copy-out-union : tie.Need-element-copy-out-union
-element-copy-out-union c = lower-lt c
+entry-requires : tie.Need-entry-requires
+entry-requires c κs = tt
 
 single-requires : tie.Need-single-requires
 single-requires c κs = tt
@@ -35,34 +33,27 @@ single-requires c κs = tt
 union-requires : tie.Need-union-requires
 union-requires c κs = tt
 
-mul-conflicts : tie.Need-mul-conflicts
-mul-conflicts c = let l = lower-lt (c .before .before .before) in search needs
-
-element-write-conflicts : tie.Need-element-write-conflicts
-element-write-conflicts c = lower-lt (c .before .before .before)
+-- Storing the entry with n put in, where n is below w, puts n in, and otherwise nothing.
+put-below : (w : ℕ) (C : List ℕ) (i n : ℕ) → set C i (union (at C i) (when (ltb n w) (single n))) ≡ cond (ltb n w) (put C i n) C
+unfolding when at put
+put-below w C i n =
+    elim (decLt n w) [
+      | yes l ↦ rw (lt-ltb n w l)
+      | no d ↦ rw (le-ltb n w (omega arith)) (ap (set C i) (union-empty (at C i)) ∙ set-getD C i 0)
+    ]
 
 returns : tie.Need-returns
-unfolding when at put declare
+unfolding declare
 returns c =
-    let t = c .before .before .before in
-    let low = t .before .before in
-    rw (← low .lower-of .ensures, ← t .before .higher-of .ensures, lt-ltb _ _ (t .if1 .taken))
-    (ap (set (low .before .args .conflicts .now) (low .lower-of .result)) (c .union .ensures ∙ ap (union _) (c .before .single .ensures ∙ ap (λ (b : Bool). when b (single (t .before .higher-of .result))) (lt-ltb _ _ (t .if1 .taken)))))
-
-returns-2 : tie.Need-returns-2
-returns-2 c = rw (← c .before .higher-of .ensures, le-ltb _ _ (c .if1 .left))
+    let high = c .before .before .before in
+    let low = high .before in
+    let C = low .before .before .args .conflicts .now in (
+      low .lower-of .ensures,
+      rw (← low .lower-of .ensures, ← high .higher-of .ensures)
+          (ap (set C (low .lower-of .result)) (c .union .ensures ∙ ap₂ union (c .before .before .entry .ensures) (c .before .single .ensures)) ∙ put-below 64 C (low .lower-of .result) (high .higher-of .result)),
+    )
 
 pub declared-spec : {M : Type 1} → statement M
 declared-spec =
     tie.close
-    (tie.spec
-    lower-of-requires
-    higher-of-requires
-    mul-union
-    element-copy-out-union
-    single-requires
-    union-requires
-    mul-conflicts
-    element-write-conflicts
-    returns
-    returns-2)
+    (tie.spec lower-of-requires higher-of-requires entry-requires single-requires union-requires returns)

@@ -23,8 +23,8 @@ member-requires c κs = tt
 returns : tie.Need-returns
 unfolding conflict declared
 returns c =
-    let b = c .before .before .before .before in
-    rw (← b .before .lower-of .ensures, ← b .higher-of .ensures, lt-ltb _ _ (c .before .before .before .if1 .taken))
+    let b = c .before .before .before in
+    rw (← b .before .lower-of .ensures, ← b .higher-of .ensures, lt-ltb _ _ (c .before .before .if1 .taken))
     (c .member .ensures ∙ ap (member _) (c .before .entry .ensures))
 
 returns-2 : tie.Need-returns-2

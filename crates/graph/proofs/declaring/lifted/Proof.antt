@@ -1,14 +1,13 @@
--- `graph::declaring::lifted` meets its contract: the code takes the higher privilege out of the entry of the lower one, and no table of 64 entries has a further one.
+-- `graph::declaring::lifted` meets its contract: the higher privilege is taken out of the entry of the lower one, which has no number beyond the privileges.
 -- Assumes nothing.
 use borrow.Author.Needs.{needs}
 use borrow.Author.Tests.{lt-ltb, le-ltb}
-use mathlib.Core.Path.{_≡_, sym, ap, _∙_}
+use mathlib.Core.Path.{_≡_, ap, _∙_}
 use Prim.Native.Nat.{ℕ, _<_, _^_}
 use native.Mathlib.Decide.{decLt}
 use native.Mathlib.Omega.{arith}
 use lib.Dec.{ltb}
 use lib.ListN.{set}
-use lib.Seq.{set-out}
 use Rattle.sets.specs.Sets.{single, difference, when}
 use Rattle.sets.proofs.Laws.{member-lt, difference-lt, difference-empty}
 use Rattle.sets.proofs.Members.{in-difference, difference-in, in-single, same-members}
@@ -32,12 +31,6 @@ single-requires c κs = tt
 difference-requires : tie.Need-difference-requires
 difference-requires c κs = tt
 
-mul-conflicts : tie.Need-mul-conflicts
-mul-conflicts c = search needs
-
-element-write-conflicts : tie.Need-element-write-conflicts
-element-write-conflicts c = search needs
-
 -- Taking out a number beyond the width takes nothing out.
 taken-out : (w s n : ℕ) → s < 2 ^ w → difference s (when (ltb n w) (single n)) ≡ difference s (single n)
 unfolding when
@@ -56,27 +49,17 @@ taken-out w s n h =
 returns : tie.Need-returns
 unfolding take-out lift
 returns c =
-    let e = c .before .before .before .entry in
-    let h = c .before .before .before .before .before .before in
-    rw (← h .before .lower-of .ensures, ← h .higher-of .ensures)
-    (ap (set (h .before .before .args .conflicts .now) (h .before .lower-of .result))
-    (c .difference .ensures ∙ ap (difference _) (c .before .single .ensures) ∙ taken-out 64 (e .result) (h .higher-of .result) (search needs) ∙ ap (λ (s : ℕ). difference s (single (h .higher-of .result))) (e .ensures)))
-
-returns-2 : tie.Need-returns-2
-unfolding take-out lift
-returns-2 c =
-    sym (set-out _ _ _ (omega (arith, c .before .before .entry-arg2 .given .0, c .before .before .before .before .before .lower-of .ensures, c .if1 .left)))
+    let e = c .before .before .entry in
+    let high = c .before .before .before in
+    let low = high .before in
+    let C = low .before .before .args .conflicts .now in (
+      low .lower-of .ensures,
+      rw (← low .lower-of .ensures, ← high .higher-of .ensures)
+          (ap (set C (low .lower-of .result))
+          (c .difference .ensures ∙ ap (difference _) (c .before .single .ensures) ∙ taken-out 64 (e .result) (high .higher-of .result) (search needs) ∙ ap (λ (s : ℕ). difference s (single (high .higher-of .result))) (e .ensures))),
+    )
 
 pub lifted-spec : {M : Type 1} → statement M
 lifted-spec =
     tie.close
-    (tie.spec
-    lower-of-requires
-    higher-of-requires
-    entry-requires
-    single-requires
-    difference-requires
-    mul-conflicts
-    element-write-conflicts
-    returns
-    returns-2)
+    (tie.spec lower-of-requires higher-of-requires entry-requires single-requires difference-requires returns)

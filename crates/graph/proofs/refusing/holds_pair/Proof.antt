@@ -1,7 +1,9 @@
 -- `graph::refusing::holds_pair` meets its contract: it searches the set for a privilege with a partner, which stands among those left.
 -- Assumes nothing.
 use borrow.Author.Needs.{needs}
-use Prim.Native.Nat.{_<_}
+use mathlib.Core.Logic.{_≢_}
+use mathlib.Core.Path.{_≡_, subst}
+use Prim.Native.Nat.{ℕ, _<_}
 use Rattle.sets.specs.Sets.{intersection}
 use Rattle.graph.specs.Tables.{at}
 use Rattle.graph.specs.Graph.{role-count}
@@ -31,11 +33,8 @@ cast-i c = let l = privilege-lt c in search needs
 without-lowest-requires : tie.Need-without-lowest-requires Inv-loop μ-loop
 without-lowest-requires c κs = tt
 
-mul-if1 : tie.Need-mul-if1 Inv-loop μ-loop
-mul-if1 c = let l = privilege-lt (c .before) in search needs
-
-element-copy-out-if1 : tie.Need-element-copy-out-if1 Inv-loop μ-loop
-element-copy-out-if1 c = privilege-lt (c .before)
+entry-requires : tie.Need-entry-requires Inv-loop μ-loop
+entry-requires c κs = tt
 
 returns : tie.Need-returns Inv-loop μ-loop
 unfolding at intersection holds-pair
@@ -44,7 +43,7 @@ returns c =
     let s = b .before .before .before .loop .inv in
     let some = b .before .before .loop-test .taken in
     let e = b .before .first .ensures in
-    any-hit s some e (partner-found _ s some e (b .without-lowest .ensures) (c .if1 .taken))
+    any-hit s some e (partner-found _ s some e (b .without-lowest .ensures) (subst (λ (z : ℕ). intersection (b .without-lowest .result) z ≢ 0) (c .before .entry .ensures) (c .if1 .taken)))
 
 loop-less : tie.Need-loop-less Inv-loop μ-loop
 loop-less c =
@@ -59,7 +58,7 @@ loop-again c =
     let some = b .before .before .loop-test .taken in
     let e = b .before .first .ensures in
     let d = b .without-lowest .ensures in
-    goes-on s some e d (partner-none _ s some e d (c .if1 .left))
+    goes-on s some e d (partner-none _ s some e d (subst (λ (z : ℕ). intersection (b .without-lowest .result) z ≡ 0) (c .before .entry .ensures) (c .if1 .left)))
 
 returns-2 : tie.Need-returns-2 Inv-loop μ-loop
 unfolding holds-pair
@@ -75,8 +74,7 @@ holds-pair-spec =
     first-requires
     cast-i
     without-lowest-requires
-    mul-if1
-    element-copy-out-if1
+    entry-requires
     returns
     loop-less
     loop-again

@@ -3,7 +3,7 @@
 use borrow.Author.Needs.{needs}
 use mathlib.Core.Bool.{Bool}
 use mathlib.Core.List.{List}
-use mathlib.Core.Path.{_∙_, sym}
+use mathlib.Core.Path.{_≡_, _∙_, sym, ap}
 use Prim.Native.Nat.{ℕ, _<_}
 use Rattle.sets.specs.Sets.{difference}
 use Rattle.sets.proofs.Laws.{difference-lt}
@@ -40,11 +40,12 @@ role-lt c = visit-lt (c .before .before .loop .inv) (c .before .loop-test .taken
 cast-i : tie.Need-cast-i Inv-loop μ-loop
 cast-i c = let l = role-lt c in search needs
 
-mul-holds-both : tie.Need-mul-holds-both Inv-loop μ-loop
-mul-holds-both c = let l = role-lt c in search needs
+entry-requires : tie.Need-entry-requires Inv-loop μ-loop
+entry-requires c κs = tt
 
-element-copy-out-holds-both : tie.Need-element-copy-out-holds-both Inv-loop μ-loop
-element-copy-out-holds-both c = role-lt c
+-- What the test says of the entry that was read.
+held : (a b : ℕ) {s t : ℕ} {x y : Bool} → s ≡ t → x ≡ holds-both a b s → x ≡ y → holds-both a b t ≡ y
+held a b e f z = ap (holds-both a b) (sym e) ∙ sym f ∙ z
 
 holds-both-requires : tie.Need-holds-both-requires Inv-loop μ-loop
 holds-both-requires c κs = tt
@@ -53,7 +54,7 @@ returns : tie.Need-returns Inv-loop μ-loop
 unfolding at effective offered-role
 returns c =
     let b = c .before .before .before in
-    hit (b .before .before .loop .inv) (b .before .loop-test .taken) (b .first .ensures) (sym (c .before .holds-both .ensures) ∙ c .if1 .taken)
+    hit (b .before .before .loop .inv) (b .before .loop-test .taken) (b .first .ensures) (held _ _ (c .before .before .entry .ensures) (c .before .holds-both .ensures) (c .if1 .taken))
     ∙ among-ordinary _ _
 
 without-lowest-requires : tie.Need-without-lowest-requires Inv-loop μ-loop
@@ -69,7 +70,7 @@ unfolding at
 loop-again c =
     let b = c .before .before .before .before in
     goes-on (b .before .before .loop .inv) (b .before .loop-test .taken) (b .first .ensures) (c .without-lowest .ensures)
-    (sym (c .before .before .holds-both .ensures) ∙ c .before .if1 .left)
+    (held _ _ (c .before .before .before .entry .ensures) (c .before .before .holds-both .ensures) (c .before .if1 .left))
 
 returns-2 : tie.Need-returns-2 Inv-loop μ-loop
 unfolding at effective offered-role
@@ -85,8 +86,7 @@ offered-role-spec =
     loop-holds
     first-requires
     cast-i
-    mul-holds-both
-    element-copy-out-holds-both
+    entry-requires
     holds-both-requires
     returns
     without-lowest-requires

@@ -1,11 +1,11 @@
--- `graph::entries::entry` meets its contract: the code reads the entry, and a table has the empty set beyond its end.
+-- `graph::table::entry` meets its contract: the code reads the entry, and a table has the empty set beyond its end.
 -- Assumes nothing.
 use borrow.Author.Needs.{needs}
 use mathlib.Core.Path.{sym}
 use Rattle.graph.specs.Tables.{at}
 use Rattle.graph.proofs.Tables.{at-end}
-use Rattle.graph.proofs.entries.entry.Statement.{statement}
-use Rattle.graph.proofs.entries.entry.Tie as tie
+use Rattle.graph.proofs.table.entry.Statement.{statement}
+use Rattle.graph.proofs.table.entry.Tie as tie
 
 mul-result : tie.Need-mul-result
 mul-result c = search needs
