@@ -29,9 +29,13 @@ keep-passed : (v : Verdict) (g h : Graph) → v ≡ passed → keep v g h .1 ≡
 unfolding keep
 keep-passed v g h e = ap (λ (x : Verdict). keep x g h .1) e
 
+keep-refused : (v : Verdict) (g h : Graph) {n p : ℕ} → v ≡ refused n p → keep v g h .1 ≡ g
+unfolding keep
+keep-refused v g h e = ap (λ (x : Verdict). keep x g h .1) e
+
 -- ---- the conflicts do not matter before 29
 module _ (roles : ℕ) (sets C : List ℕ) where
-  early-any : (c : Change) → early (drawn-from roles sets) c ≡ early (graph-of roles sets C) c
+  pub early-any : (c : Change) → early (drawn-from roles sets) c ≡ early (graph-of roles sets C) c
   unfolding early state-checks present ordinary effective below edge direct at-or-below
   early-any (add-by-place a own juniors seniors) = refl
   early-any (add-by-privileges a own) = refl
@@ -46,9 +50,17 @@ module _ (roles : ℕ) (sets C : List ℕ) where
   changed-any c = refl
 
   module _ (c : Change) (a : Attempt) (e : read-attempt a ≡ keep (early (drawn-from roles sets) c) (drawn-from roles sets) (changed (drawn-from roles sets) c)) where
-    first : read-verdict (a .verdict) ≡ verdict (input-checks c ++ state-checks (graph-of roles sets C) c)
+    -- The attempt's verdict is that of the checks before closing.
+    pub first : read-verdict (a .verdict) ≡ verdict (input-checks c ++ state-checks (graph-of roles sets C) c)
     unfolding early
     first = ap (λ (z : Verdict × Graph). z .0) e ∙ keep-verdict (early (drawn-from roles sets) c) _ _ ∙ early-any c
+
+    -- What the attempt refuses leaves the roles and sets.
+    pub attempt-refused : {r : Refusal} → a .verdict ≡ Refused r → drawn-from (a .roles) (a .sets) ≡ drawn-from roles sets
+    unfolding read-verdict
+    attempt-refused {r} d =
+        ap (λ (z : Verdict × Graph). z .1) e
+        ∙ keep-refused (early (drawn-from roles sets) c) _ _ (sym (keep-verdict (early (drawn-from roles sets) c) _ _) ∙ sym (ap (λ (z : Verdict × Graph). z .0) e) ∙ ap read-verdict d)
 
     -- Where nothing refused, the roles and sets are those after the change.
     pub after-passed : a .verdict ≡ Passed → graph-of (a .roles) (a .sets) C ≡ changed (graph-of roles sets C) c

@@ -117,7 +117,7 @@ pub fn pair_role<'a>(roles: u64, sets: &'a [u64; 64], conflicts: &'a [u64; 64]) 
 }
 
 // Whether a set holds both a and b.
-fn holds_both(a: Privilege, b: Privilege, s: u64) -> bool
+pub fn holds_both(a: Privilege, b: Privilege, s: u64) -> bool
     ensures { λ r. ⌜ r ≡ holds-both (a .0) (b .0) s ⌝ }
 {
     let i = a.0 as usize;

@@ -17,7 +17,7 @@ use Rattle.graph.proofs.Drawn.{Reached, effective-iff, effective-lt}
 use Rattle.graph.proofs.Refusals.{Passes}
 use Rattle.seats.specs.Bytes.{number-at}
 use Rattle.seats.specs.Seats.{State, seat-count, assigned, held, may-use}
-use Rattle.seats.specs.Calls.{ask, Answer, answered, refused, checks, reply, perform}
+use Rattle.seats.specs.Calls.{ask, Answer, answered, refused, checks, after, reply, perform}
 use Rattle.seats.specs.Records.{Decoded, malformed, well-formed, all-empty, fields, unused, kind, kinds, decode, perform-decoded, step}
 use Rattle.seats.specs.ListTheorem.{ask-record, MayUse}
 use Rattle.seats.specs.Invariants.{Invariant}
@@ -30,6 +30,19 @@ decode-ask i p = refl
 
 decodes-ask : (i p : ℕ) → p ≤ 255 → decode (ask-record i p) ≡ well-formed (ask i p)
 decodes-ask i p l = decode-ask i p ∙ rw (passes (leb p 255) (le→leb p 255 l))
+
+-- The step by the record that asks is kind 12.
+pub steps-ask : (s : State) (i p : ℕ) → p ≤ 255 → step s (ask-record i p) .0 ≡ perform s (ask i p) .0
+unfolding step perform-decoded
+steps-ask s i p l = ap (λ (d : Decoded). perform-decoded s d .0) (decodes-ask i p l)
+
+-- Kind 12 leaves the state, refused or not.
+pub ask-keeps : (s : State) (i p : ℕ) → perform s (ask i p) .1 ≡ s
+unfolding after
+ask-keeps s i p = elim (settled s (ask i p)) [
+  | inl r ↦ ap (λ (z : Answer × State). z .1) (r .answer)
+  | inr a ↦ ap (λ (z : Answer × State). z .1) (a .answer)
+]
 
 -- A yes comes only from a seat and a privilege with their numbers, where the seat holds the privilege.
 yes-means : (s : State) (i p : ℕ) → MayUse s i p → T (may-use s i p)

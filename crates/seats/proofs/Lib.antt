@@ -25,4 +25,7 @@ pub mod Putting
 pub mod Writing
 pub mod MemberEntries
 pub mod SaveParts
+pub mod Scanning
+pub mod Requests
+pub mod Changing
 pub mod Examples

@@ -1,31 +1,45 @@
 -- How the code's values are read as the paper's: states, calls, answers, and what filling a buffer answers.
+use mathlib.Core.List.{List}
+use Prim.Native.Nat.{ℕ}
+use Rattle.graph.specs.Tables.{stored}
 use Rattle.graph.specs.Reading.{graph-of, read-change}
 use Rattle.seats.specs.Seats.{State}
 use Rattle.seats.specs.Calls.{Call, change, declare, lift, assign, unassign, ask, Answer, accepted, answered, refused}
 use Rattle.seats.specs.Records.{Decoded, malformed, well-formed}
 use Rattle.seats.specs.Bytes.{Filled, written, too-short}
 use Rattle.seats.specs.declared.State as state-struct
+use Rattle.seats.specs.declared.Request as request-enum
+use Rattle.seats.specs.declared.Request.the-variants as requests
 use Rattle.seats.specs.declared.Call as call-enum
 use Rattle.seats.specs.declared.Call.the-variants as calls
 use Rattle.seats.specs.declared.Decoded as decoded-enum
 use Rattle.seats.specs.declared.Decoded.the-variants as decodings
 use Rattle.seats.specs.declared.Answer as answer-enum
 use Rattle.seats.specs.declared.Answer.the-variants as answers
+use Rattle.seats.specs.declared.Decision as decision-struct
 use Rattle.seats.specs.declared.Filled as filled-enum
 use Rattle.seats.specs.declared.Filled.the-variants as fillings
 
+-- The state of these roles, sets, conflicts and seats.
+abbrev pub state-of : ℕ → List ℕ → List ℕ → List ℕ → State
+state-of roles sets conflicts seats = record { graph = graph-of roles sets conflicts; seats = seats }
+
 -- A state as the code holds it.
 abbrev pub read-state : state-struct.State → State
-read-state s = record { graph = graph-of (s .roles) (s .sets) (s .conflicts); seats = s .seats }
+read-state s = state-of (s .roles) (s .sets) (s .conflicts) (s .seats)
+
+-- A request's kind and fields.
+unfoldable pub read-request : request-enum.Request → Call
+read-request (requests.Declare a b) = declare (a .0) (b .0)
+read-request (requests.Lift a b) = lift (a .0) (b .0)
+read-request (requests.Assign a b) = assign (a .0) (b .0)
+read-request (requests.Unassign a b) = unassign (a .0) (b .0)
+read-request (requests.Ask a b) = ask (a .0) (b .0)
 
 -- A call's kind and fields.
 unfoldable pub read-call : call-enum.Call → Call
 read-call (calls.Change c) = change (read-change c)
-read-call (calls.Declare a b) = declare (a .0) (b .0)
-read-call (calls.Lift a b) = lift (a .0) (b .0)
-read-call (calls.Assign a b) = assign (a .0) (b .0)
-read-call (calls.Unassign a b) = unassign (a .0) (b .0)
-read-call (calls.Ask a b) = ask (a .0) (b .0)
+read-call (calls.Request r) = read-request r
 
 -- What a record decodes to.
 unfoldable pub read-decoded : decoded-enum.Decoded → Decoded
@@ -42,3 +56,13 @@ read-answer (answers.Refused r) = refused (r .number) (r .place)
 unfoldable pub read-filled : filled-enum.Filled → Filled
 read-filled (fillings.Written n) = written n
 read-filled (fillings.TooShort r) = too-short (r .number) (r .place)
+
+-- The state with the entries stored that a decision changes.
+abbrev pub decided : State → decision-struct.Decision → State
+decided s d =
+    state-of (s .graph .roles) (s .graph .sets) (stored (s .graph .conflicts) (d .conflict .number) (d .conflict .set))
+    (stored (s .seats) (d .seat .number) (d .seat .set))
+
+-- What a request comes to: its answer, and the state after it.
+abbrev pub read-decision : State → decision-struct.Decision → Answer × State
+read-decision s d = (read-answer (d .answer), decided s d)

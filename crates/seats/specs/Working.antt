@@ -1,9 +1,12 @@
--- What the contracts of private functions speak of: the fields of a record by themselves, and text put into a buffer.
+-- What the contracts of private functions speak of: the fields of a record by themselves, what refuses a change after closing, and text put into a buffer.
 use mathlib.Core.List.{List, [], _∷_, _++_}
 use mathlib.Core.Path.{_≡_}
 use Prim.Native.Nat.{ℕ, _+_, _*_}
 use lib.ListN.{length, getD}
 use lib.Seq.{sets}
+use Rattle.graph.specs.Editing.{Change}
+use Rattle.graph.specs.Refusing.{Check, refuse-lowest, still-below, closed-checks}
+use Rattle.seats.specs.Seats.{State, seat-count, pair-seat}
 use Rattle.seats.specs.Records.{Fields}
 use Rattle.seats.specs.Tape.{digits, space, line-feed}
 
@@ -14,6 +17,10 @@ quad-of l i = getD l i 0 + 256 * getD l (i + 1) 0 + 65536 * getD l (i + 2) 0 + 1
 -- The fields of a record beside its kind.
 abbrev pub fields-of : ℕ → ℕ → ℕ → ℕ → ℕ → Fields
 fields-of a b x y z = record { a = a; b = b; x = x; y = y; z = z }
+
+-- Refusals 26 to 30, h being the state that the change would leave.
+abbrev pub after-checks : State → Change → List Check
+after-checks h c = (still-below (h .graph) c ++ closed-checks (h .graph)) ++ (refuse-lowest 30 seat-count (pair-seat h) ∷ [])
 
 -- Two numbers, each behind a space, and a line feed.
 abbrev pub tail-of : ℕ → ℕ → List ℕ

@@ -1,9 +1,13 @@
 // Seats over the role graph: records and the calls they carry, asks, images, and the lines of a tape.
+pub mod deciding;
 pub mod records;
 pub mod saving;
+pub mod seating;
+pub mod stepping;
 pub mod text;
 
 use graph::Change;
+use graph::Entry;
 use graph::Privilege;
 use graph::Refusal;
 use graph::Role;
@@ -19,14 +23,19 @@ pub struct State {
     pub seats: [u64; 64],
 }
 
-// A call, with the fields that its kind names.
-pub enum Call {
-    Change(Change),
+// A call that draws nothing anew, kinds 8 to 12, with the fields that its kind names.
+pub enum Request {
     Declare(Privilege, Privilege),
     Lift(Privilege, Privilege),
     Assign(Seat, Role),
     Unassign(Seat, Role),
     Ask(Seat, Privilege),
+}
+
+// A call: a change of the graph, or a request.
+pub enum Call {
+    Change(Change),
+    Request(Request),
 }
 
 // A call as a record carries it.
@@ -45,6 +54,32 @@ pub enum Answer {
     Accepted,
     Answered(bool),
     Refused(Refusal),
+}
+
+// What a request comes to: its answer, and the entry of the conflicts and of the seats that it changes.
+pub struct Decision {
+    pub answer: Answer,
+    pub conflict: Entry,
+    pub seat: Entry,
+}
+
+// What a change comes to: its answer, and the roles and sets after it.
+pub struct Changed {
+    pub answer: Answer,
+    pub roles: u64,
+    pub sets: [u64; 64],
+}
+
+// What a record comes to where the tables are lent: its answer, and the roles after it.
+pub struct Taken {
+    pub answer: Answer,
+    pub roles: u64,
+}
+
+// What a record comes to: its answer, and the state after it.
+pub struct Stepped {
+    pub answer: Answer,
+    pub state: State,
 }
 
 // What filling a lent buffer answers: the length written, or a refusal.

@@ -9,10 +9,11 @@ ghost use Rattle.graph.specs.Reading.{read-change};
 ghost use Rattle.seats.specs.Bytes.{number-at};
 ghost use Rattle.seats.specs.Calls.{change};
 ghost use Rattle.seats.specs.Records.{malformed, well-formed, all-empty, kinds, decode};
-ghost use Rattle.seats.specs.Reading.{read-call, read-decoded};
+ghost use Rattle.seats.specs.Reading.{read-call, read-request, read-decoded};
 ghost use Rattle.seats.specs.Working.{quad-of, fields-of};
 use crate::Call;
 use crate::Decoded;
+use crate::Request;
 use crate::Seat;
 use crate::Step;
 use graph::Change;
@@ -87,6 +88,13 @@ fn changed(b: u8, most: u8, rest: bool, edit: Change) -> Decoded
     formed(b, most, rest, Call::Change(edit))
 }
 
+// The request, likewise.
+fn requested(b: u8, rest: bool, request: Request) -> Decoded
+    ensures { λ r. ⌜ read-decoded r ≡ cond (leb b 255 && rest) (well-formed (read-request request)) malformed ⌝ }
+{
+    formed(b, 255, rest, Call::Request(request))
+}
+
 // What a kind makes of the fields beside it.
 fn named(kind: u8, a: u8, b: u8, x: u64, y: u64, z: u64) -> Decoded
     ensures { λ r. ⌜ read-decoded r ≡ getD (malformed ∷ kinds (fields-of a b x y z)) kind malformed ⌝ }
@@ -100,11 +108,11 @@ fn named(kind: u8, a: u8, b: u8, x: u64, y: u64, z: u64) -> Decoded
         5 => changed(b, 255, none, Change::Withdraw(Role(a), Privilege(b))),
         6 => changed(b, 255, none, Change::AddEdge(Role(a), Role(b))),
         7 => changed(b, 255, none, Change::RemoveEdge(Role(a), Role(b))),
-        8 => formed(b, 255, none, Call::Declare(Privilege(a), Privilege(b))),
-        9 => formed(b, 255, none, Call::Lift(Privilege(a), Privilege(b))),
-        10 => formed(b, 255, none, Call::Assign(Seat(a), Role(b))),
-        11 => formed(b, 255, none, Call::Unassign(Seat(a), Role(b))),
-        12 => formed(b, 255, none, Call::Ask(Seat(a), Privilege(b))),
+        8 => requested(b, none, Request::Declare(Privilege(a), Privilege(b))),
+        9 => requested(b, none, Request::Lift(Privilege(a), Privilege(b))),
+        10 => requested(b, none, Request::Assign(Seat(a), Role(b))),
+        11 => requested(b, none, Request::Unassign(Seat(a), Role(b))),
+        12 => requested(b, none, Request::Ask(Seat(a), Privilege(b))),
         0 | 13..=255 => Decoded::Malformed,
     }
 }

@@ -4,7 +4,7 @@ use borrow.Author.Needs.{needs}
 use mathlib.Core.Path.{refl, _∙_}
 use Rattle.graph.specs.Reading.{read-change}
 use Rattle.seats.specs.Records.{all-empty, unused, kinds}
-use Rattle.seats.specs.Reading.{read-call, read-decoded}
+use Rattle.seats.specs.Reading.{read-request, read-decoded}
 use Rattle.seats.proofs.Decoding.{at-kind, unknown-kind}
 use Rattle.seats.proofs.records.named.Statement.{statement}
 use Rattle.seats.proofs.records.named.Tie as tie
@@ -36,20 +36,20 @@ changed-requires-6 c κs = search needs
 changed-requires-7 : tie.Need-changed-requires-7
 changed-requires-7 c κs = search needs
 
-formed-requires : tie.Need-formed-requires
-formed-requires c κs = search needs
+requested-requires : tie.Need-requested-requires
+requested-requires c κs = search needs
 
-formed-requires-2 : tie.Need-formed-requires-2
-formed-requires-2 c κs = search needs
+requested-requires-2 : tie.Need-requested-requires-2
+requested-requires-2 c κs = search needs
 
-formed-requires-3 : tie.Need-formed-requires-3
-formed-requires-3 c κs = search needs
+requested-requires-3 : tie.Need-requested-requires-3
+requested-requires-3 c κs = search needs
 
-formed-requires-4 : tie.Need-formed-requires-4
-formed-requires-4 c κs = search needs
+requested-requires-4 : tie.Need-requested-requires-4
+requested-requires-4 c κs = search needs
 
-formed-requires-5 : tie.Need-formed-requires-5
-formed-requires-5 c κs = search needs
+requested-requires-5 : tie.Need-requested-requires-5
+requested-requires-5 c κs = search needs
 
 returns : tie.Need-returns
 unfolding kinds unused all-empty read-change
@@ -80,24 +80,24 @@ unfolding kinds unused all-empty read-change
 returns-7 c = rw (c .before .match .keys7) (c .changed7 .ensures ∙ at-kind _ 255 0 _ (c .before .before .unused .ensures))
 
 returns-8 : tie.Need-returns-8
-unfolding kinds unused all-empty read-call
-returns-8 c = rw (c .before .match .keys8) (c .formed .ensures ∙ at-kind _ 255 0 _ (c .before .before .unused .ensures))
+unfolding kinds unused all-empty read-request
+returns-8 c = rw (c .before .match .keys8) (c .requested .ensures ∙ at-kind _ 255 0 _ (c .before .before .unused .ensures))
 
 returns-9 : tie.Need-returns-9
-unfolding kinds unused all-empty read-call
-returns-9 c = rw (c .before .match .keys9) (c .formed2 .ensures ∙ at-kind _ 255 0 _ (c .before .before .unused .ensures))
+unfolding kinds unused all-empty read-request
+returns-9 c = rw (c .before .match .keys9) (c .requested2 .ensures ∙ at-kind _ 255 0 _ (c .before .before .unused .ensures))
 
 returns-10 : tie.Need-returns-10
-unfolding kinds unused all-empty read-call
-returns-10 c = rw (c .before .match .keys10) (c .formed3 .ensures ∙ at-kind _ 255 0 _ (c .before .before .unused .ensures))
+unfolding kinds unused all-empty read-request
+returns-10 c = rw (c .before .match .keys10) (c .requested3 .ensures ∙ at-kind _ 255 0 _ (c .before .before .unused .ensures))
 
 returns-11 : tie.Need-returns-11
-unfolding kinds unused all-empty read-call
-returns-11 c = rw (c .before .match .keys11) (c .formed4 .ensures ∙ at-kind _ 255 0 _ (c .before .before .unused .ensures))
+unfolding kinds unused all-empty read-request
+returns-11 c = rw (c .before .match .keys11) (c .requested4 .ensures ∙ at-kind _ 255 0 _ (c .before .before .unused .ensures))
 
 returns-12 : tie.Need-returns-12
-unfolding kinds unused all-empty read-call
-returns-12 c = rw (c .before .match .keys12) (c .formed5 .ensures ∙ at-kind _ 255 0 _ (c .before .before .unused .ensures))
+unfolding kinds unused all-empty read-request
+returns-12 c = rw (c .before .match .keys12) (c .requested5 .ensures ∙ at-kind _ 255 0 _ (c .before .before .unused .ensures))
 
 returns-13 : tie.Need-returns-13
 unfolding read-decoded
@@ -120,11 +120,11 @@ named-spec =
     changed-requires-5
     changed-requires-6
     changed-requires-7
-    formed-requires
-    formed-requires-2
-    formed-requires-3
-    formed-requires-4
-    formed-requires-5
+    requested-requires
+    requested-requires-2
+    requested-requires-3
+    requested-requires-4
+    requested-requires-5
     returns
     returns-2
     returns-3

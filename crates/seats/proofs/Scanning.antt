@@ -1,0 +1,38 @@
+-- A loop over the numbers below n, from 0 on, that leaves at the first that passes a test.
+-- Assumes nothing.
+use mathlib.Core.Path.{_≡_, refl, sym, ap, _∙_, subst}
+use mathlib.Core.Bool.{Bool, true, false}
+use Prim.Native.Nat.{ℕ, _+_, _<_, _≤_}
+use native.Mathlib.Decide.{ℕ-discrete}
+use native.Mathlib.Omega.{arith}
+use lib.Dec.{T}
+use Rattle.sets.specs.Counting.{any, lowest}
+use Rattle.sets.proofs.Counting.{any-some, lowest-is, lowest-none}
+
+-- No number below i passes.
+pub record Scanned (f : ℕ → Bool) (n i : ℕ) : Type 0 where
+  pub within : i ≤ n
+  pub none : (j : ℕ) → j < i → f j ≡ false
+
+pub scanned-none : (f : ℕ → Bool) (n : ℕ) → Scanned f n 0
+scanned-none f n = record { within = omega arith; none = λ j l. absurd (omega arith) }
+
+-- A number that fails is passed over.
+pub scanned-next : {f : ℕ → Bool} {n i : ℕ} → Scanned f n i → i < n → f i ≡ false → Scanned f n (i + 1)
+scanned-next {f} {n} {i} s l e = record {
+  within = omega arith;
+  none =
+      λ j k. elim (ℕ-discrete j i) [
+        | yes q ↦ ap f q ∙ e
+        | no d ↦ s .none j (omega arith)
+      ];
+}
+
+-- The first that passes is the lowest.
+pub scanned-hit : {f : ℕ → Bool} {n i : ℕ} → Scanned f n i → i < n → f i ≡ true → i ≡ lowest n f
+scanned-hit {f} {n} {i} s l e = sym (lowest-is n f i l (subst T (sym e) tt) (λ j k t. subst T (s .none j k) t))
+
+-- Where none passed, the search gives n.
+pub scanned-miss : {f : ℕ → Bool} {n i : ℕ} → Scanned f n i → n ≤ i → n ≡ lowest n f
+scanned-miss {f} {n} {i} s l =
+    sym (lowest-none n f (λ t. let (j, k, x) = any-some n f t in subst T (s .none j (omega arith)) x))

@@ -1,0 +1,103 @@
+-- `seats::deciding::decide` meets its contract: each arm is its kind.
+-- Assumes nothing.
+use borrow.Author.Needs.{needs}
+use mathlib.Core.Path.{_≡_, sym, ap, ap₂, _∙_, subst}
+use mathlib.Core.Bool.{Bool, cond, not}
+use mathlib.Core.List.{List, [], _∷_, _++_}
+use Prim.Native.Nat.{ℕ, max, _<_}
+use native.Mathlib.Omega.{arith}
+use borrow.Author.Tests.{lt-ltb, not-true, not-false}
+use Rattle.sets.specs.Sets.{member, single, union, difference, when}
+use Rattle.graph.specs.Graph.{Graph, effective, present, privilege-count}
+use Rattle.graph.specs.Tables.{put, take-out}
+use Rattle.graph.specs.Conflicts as conflicts
+use Rattle.graph.specs.Refusing.{passed, verdict, declare-checks, lift-checks, refuse, refuse-lowest}
+use Rattle.graph.specs.Refusing as refusing
+use Rattle.graph.specs.Reading.{read-verdict}
+use Rattle.graph.proofs.Judging.{stops, moves-on, ends, refused-first, passed-first, place-found, place-none}
+use Rattle.seats.specs.Seats.{State, seat-count, assigned, held, pair-seat, offered-seat}
+use Rattle.seats.specs.Calls.{Call, Answer, accepted, refused, declare, lift, assign, unassign, ask, checks, after, reply, with-graph, with-conflicts, with-seats}
+use Rattle.seats.specs.Reading.{state-of, read-answer, read-request, read-decision}
+use Rattle.seats.proofs.Requests.{refused-by, passed-by, none-stored, entry-stored, declare-numbers, lift-numbers, seat-role-checks, seat-numbers}
+use Rattle.seats.specs.Calls.{perform}
+use Rattle.seats.proofs.Asking.{steps-ask, ask-keeps}
+use Rattle.seats.proofs.deciding.decide.Statement.{statement}
+use Rattle.seats.proofs.deciding.decide.Tie as tie
+
+enum-known-request : tie.Need-enum-known-request
+enum-known-request c = search needs
+
+decide-declare-requires : tie.Need-decide-declare-requires
+decide-declare-requires c κs = tt
+
+enum-known-request-2 : tie.Need-enum-known-request-2
+enum-known-request-2 c = search needs
+
+decide-lift-requires : tie.Need-decide-lift-requires
+decide-lift-requires c κs = tt
+
+enum-known-request-3 : tie.Need-enum-known-request-3
+enum-known-request-3 c = search needs
+
+decide-assign-requires : tie.Need-decide-assign-requires
+decide-assign-requires c κs = tt
+
+enum-known-request-4 : tie.Need-enum-known-request-4
+enum-known-request-4 c = search needs
+
+decide-unassign-requires : tie.Need-decide-unassign-requires
+decide-unassign-requires c κs = tt
+
+enum-known-request-5 : tie.Need-enum-known-request-5
+enum-known-request-5 c = search needs
+
+ask-requires : tie.Need-ask-requires
+ask-requires c κs = tt
+
+unchanged-requires : tie.Need-unchanged-requires
+unchanged-requires c κs = tt
+
+returns : tie.Need-returns
+unfolding read-request
+returns c = rw (c .before .before .request .given .1) (c .decide-declare .ensures)
+
+returns-2 : tie.Need-returns-2
+unfolding read-request
+returns-2 c = rw (c .before .before .request2 .given .1) (c .decide-lift .ensures)
+
+returns-3 : tie.Need-returns-3
+unfolding read-request
+returns-3 c = rw (c .before .before .request3 .given .1) (c .decide-assign .ensures)
+
+returns-4 : tie.Need-returns-4
+unfolding read-request
+returns-4 c = rw (c .before .before .request4 .given .1) (c .decide-unassign .ensures)
+
+returns-5 : tie.Need-returns-5
+unfolding read-request
+returns-5 c =
+    let g = c .before .before .before .before .before .before .before .before .args in
+    let s = state-of (g .roles) (g .sets .now) (g .conflicts .now) (g .seats .now) in
+    let q = c .before .before .before .request5 .given .1 in
+    rw q (c .unchanged .ensures s ∙ ap₂ (λ (x : Answer) (h : State). (x, h)) (c .before .ask .ensures (g .roles) (g .conflicts .now) ∙ steps-ask s _ _ (search needs)) (sym (ask-keeps s _ _)))
+
+pub decide-spec : {M : Type 1} → statement M
+decide-spec =
+    tie.close
+    (tie.spec
+    enum-known-request
+    decide-declare-requires
+    enum-known-request-2
+    decide-lift-requires
+    enum-known-request-3
+    decide-assign-requires
+    enum-known-request-4
+    decide-unassign-requires
+    enum-known-request-5
+    ask-requires
+    unchanged-requires
+    returns
+    returns-2
+    returns-3
+    returns-4
+    returns-5)

@@ -1,0 +1,104 @@
+-- `seats::deciding::decide_declare` meets its contract: each return is the check that it stands for, and what passes them is stored.
+-- Assumes nothing.
+use borrow.Author.Needs.{needs}
+use mathlib.Core.Path.{_≡_, sym, ap, ap₂, _∙_, subst}
+use mathlib.Core.Bool.{Bool, cond, not}
+use mathlib.Core.List.{List, [], _∷_, _++_}
+use Prim.Native.Nat.{ℕ, max, _<_}
+use native.Mathlib.Omega.{arith}
+use borrow.Author.Tests.{lt-ltb, not-true, not-false}
+use Rattle.sets.specs.Sets.{member, single, union, difference, when}
+use Rattle.graph.specs.Graph.{Graph, effective, present, privilege-count}
+use Rattle.graph.specs.Tables.{put, take-out}
+use Rattle.graph.specs.Conflicts as conflicts
+use Rattle.graph.specs.Refusing.{passed, verdict, declare-checks, lift-checks, refuse, refuse-lowest}
+use Rattle.graph.specs.Refusing as refusing
+use Rattle.graph.specs.Reading.{read-verdict}
+use Rattle.graph.proofs.Judging.{stops, moves-on, ends, refused-first, passed-first, place-found, place-none}
+use Rattle.seats.specs.Seats.{State, seat-count, assigned, held, pair-seat, offered-seat}
+use Rattle.seats.specs.Calls.{Call, Answer, accepted, refused, declare, lift, assign, unassign, ask, checks, after, reply, with-graph, with-conflicts, with-seats}
+use Rattle.seats.specs.Reading.{state-of, read-answer, read-request, read-decision}
+use Rattle.seats.proofs.Requests.{refused-by, passed-by, none-stored, entry-stored, declare-numbers, lift-numbers, seat-role-checks, seat-numbers}
+use Rattle.seats.proofs.deciding.decide_declare.Statement.{statement}
+use Rattle.seats.proofs.deciding.decide_declare.Tie as tie
+
+judge-declare-requires : tie.Need-judge-declare-requires
+judge-declare-requires c κs = tt
+
+enum-known-verdict : tie.Need-enum-known-verdict
+enum-known-verdict c = search needs
+
+unchanged-requires : tie.Need-unchanged-requires
+unchanged-requires c κs = tt
+
+enum-told : tie.Need-enum-told
+enum-told c = search needs
+
+offered-seat-requires : tie.Need-offered-seat-requires
+offered-seat-requires c κs = tt
+
+refusal-requires : tie.Need-refusal-requires
+refusal-requires c κs = tt
+
+unchanged-requires-2 : tie.Need-unchanged-requires-2
+unchanged-requires-2 c κs = tt
+
+returns : tie.Need-returns
+unfolding read-verdict checks offered-seat held assigned effective
+returns c =
+    let g = c .before .before .before .before .before .before .before .before .before .before .args in
+    let s = state-of (g .roles) (g .sets .now) (g .conflicts .now) (g .seats .now) in
+    let o = c .before .before .before in
+    let told = o .before .enum-told .given .1 in
+    c .unchanged2 .ensures s
+    ∙ ap (λ (x : Answer). (x, s)) (c .before .refusal .ensures ∙ ap (refused 30) (o .offered-seat .ensures))
+    ∙ sym (refused-by s (declare (g .a .0) (g .b .0)) (passed-first _ _ (o .before .before .before .judge-declare .ensures) told ∙ stops _ _ (place-found _ (o .offered-seat .ensures) (c .before .before .if1 .taken))))
+
+declared-requires : tie.Need-declared-requires
+declared-requires c κs = tt
+
+none-requires : tie.Need-none-requires
+none-requires c κs = tt
+
+returns-2 : tie.Need-returns-2
+unfolding read-verdict read-answer checks 
+returns-2 c =
+    let g = c .before .before .before .before .before .before .before .before .args in
+    let s = state-of (g .roles) (g .sets .now) (g .conflicts .now) (g .seats .now) in
+    let told = c .before .before .verdict .given .1 in
+    c .unchanged .ensures s
+    ∙ sym (refused-by s (declare (g .a .0) (g .b .0)) (sym (refused-first _ _ (c .before .before .before .before .judge-declare .ensures) told) ∙ ap read-verdict told))
+
+returns-3 : tie.Need-returns-3
+unfolding read-verdict read-answer checks reply after with-graph with-conflicts offered-seat held assigned effective
+returns-3 c =
+    let g = c .before .before .before .before .before .before .before .before .before .before .args in
+    let s = state-of (g .roles) (g .sets .now) (g .conflicts .now) (g .seats .now) in
+    let o = c .before .before .before in
+    let told = o .before .enum-told .given .1 in
+    let j = o .before .before .before .judge-declare .ensures in
+    let d = c .before .declared .ensures in
+    let e = c .before .declared .result in
+    let l = declare-numbers (s .graph) (g .a .0) (g .b .0) (sym j ∙ ap read-verdict told) in
+    let k : e .number < 64 = omega (arith, d .0) in
+    ap₂ (λ (C W : List ℕ). (accepted, state-of (g .roles) (g .sets .now) C W))
+    (entry-stored (g .conflicts .now) _ k ∙ d .1 ∙ ap (λ (t : Bool). cond t (conflicts.declare (g .conflicts .now) (g .a .0) (g .b .0)) (g .conflicts .now)) (lt-ltb _ _ l))
+    (none-stored (g .seats .now) _ (c .none .ensures))
+    ∙ sym (passed-by s (declare (g .a .0) (g .b .0)) (passed-first _ _ j told ∙ moves-on _ _ (place-none _ (o .offered-seat .ensures) (c .before .before .if1 .left)) ∙ sym ends))
+
+pub decide-declare-spec : {M : Type 1} → statement M
+decide-declare-spec =
+    tie.close
+    (tie.spec
+    judge-declare-requires
+    enum-known-verdict
+    unchanged-requires
+    enum-told
+    offered-seat-requires
+    refusal-requires
+    unchanged-requires-2
+    returns
+    declared-requires
+    none-requires
+    returns-2
+    returns-3)

@@ -1,0 +1,51 @@
+-- `seats::seating::ask` meets its contract: the record that asks decodes to kind 12, whose checks are the code's.
+-- Assumes nothing.
+use borrow.Author.Needs.{needs}
+use borrow.Author.Tests.{le-leb, lt-leb}
+use mathlib.Core.Bool.{Bool}
+use mathlib.Core.Path.{_≡_, sym, ap, _∙_}
+use Prim.Native.Nat.{_≤_}
+use Rattle.sets.specs.Sets.{member}
+use Rattle.graph.specs.Refusing.{verdict}
+use Rattle.seats.specs.Seats.{may-use}
+use Rattle.seats.specs.Calls.{answered, checks, reply, settle, perform}
+use Rattle.seats.specs.Reading.{read-answer}
+use Rattle.seats.proofs.Asking.{steps-ask}
+use Rattle.seats.proofs.seating.ask.Statement.{statement}
+use Rattle.seats.proofs.seating.ask.Tie as tie
+
+refusal-requires : tie.Need-refusal-requires
+refusal-requires c κs = tt
+
+returns : tie.Need-returns
+unfolding perform checks verdict settle
+returns c R C =
+    c .refusal .ensures ∙ sym (steps-ask _ _ _ (search needs) ∙ rw (le-leb 64 _ (c .before .if1 .taken)))
+
+refusal-requires-2 : tie.Need-refusal-requires-2
+refusal-requires-2 c κs = tt
+
+returns-2 : tie.Need-returns-2
+unfolding perform checks verdict settle
+returns-2 c R C =
+    c .refusal2 .ensures ∙ sym (steps-ask _ _ _ (search needs) ∙ rw (lt-leb 64 _ (c .before .before .before .if1 .left), le-leb 64 _ (c .before .if2 .taken)))
+
+cast-p : tie.Need-cast-p
+cast-p c = search needs
+
+held-by-requires : tie.Need-held-by-requires
+held-by-requires c κs = tt
+
+member-requires : tie.Need-member-requires
+member-requires c κs = tt
+
+returns-3 : tie.Need-returns-3
+unfolding perform checks verdict settle reply may-use read-answer
+returns-3 c R C =
+    ap answered (c .member .ensures ∙ ap (member _) (c .before .held-by .ensures R C))
+    ∙ sym (steps-ask _ _ _ (search needs) ∙ rw (lt-leb 64 _ (c .before .before .before .before .before .if1 .left), lt-leb 64 _ (c .before .before .before .if2 .left)))
+
+pub ask-spec : {M : Type 1} → statement M
+ask-spec =
+    tie.close
+    (tie.spec refusal-requires returns refusal-requires-2 returns-2 cast-p held-by-requires member-requires returns-3)

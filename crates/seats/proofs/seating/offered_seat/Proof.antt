@@ -1,0 +1,68 @@
+-- `seats::seating::offered_seat` meets its contract: it goes through the seats from 0 on.
+-- Assumes nothing.
+use borrow.Author.Needs.{needs}
+use mathlib.Core.Bool.{Bool}
+use mathlib.Core.List.{List, []}
+use mathlib.Core.Path.{sym, ap, _∙_}
+use Prim.Native.Nat.{ℕ, _-_}
+use Rattle.graph.specs.Conflicts.{holds-both}
+use Rattle.seats.specs.Seats.{seat-count, offered-seat}
+use Rattle.seats.specs.Reading.{state-of}
+use Rattle.seats.proofs.Scanning.{Scanned, scanned-none, scanned-next, scanned-hit, scanned-miss}
+use Rattle.seats.proofs.seating.offered_seat.Statement.{statement}
+use Rattle.seats.proofs.seating.offered_seat.Tie as tie
+
+-- Seat i holds both a and b.
+abbrev offers : List ℕ → List ℕ → ℕ → ℕ → ℕ → Bool
+offers sets seats a b i = offered-seat (state-of 0 sets [] seats) a b i
+
+abbrev Inv-loop : tie.InvT-loop
+Inv-loop sets seats a b i₀ i = Scanned (offers sets seats (a .0) (b .0)) seat-count i
+
+abbrev μ-loop : tie.MeasureT-loop
+μ-loop sets seats a b i₀ i = seat-count - i
+
+loop-holds : tie.Need-loop-holds Inv-loop μ-loop
+loop-holds c = scanned-none _ seat-count
+
+held-by-requires : tie.Need-held-by-requires Inv-loop μ-loop
+held-by-requires c κs = tt
+
+holds-both-requires : tie.Need-holds-both-requires Inv-loop μ-loop
+holds-both-requires c κs = tt
+
+returns : tie.Need-returns Inv-loop μ-loop
+unfolding offered-seat
+returns c =
+    let t = c .before .before .before in
+    scanned-hit (t .before .loop .inv) (t .loop-test .taken) (ap (holds-both _ _) (sym (c .before .before .held-by .ensures 0 [])) ∙ sym (c .before .holds-both .ensures) ∙ c .if1 .taken)
+
+add-i : tie.Need-add-i Inv-loop μ-loop
+add-i c = search needs
+
+loop-less : tie.Need-loop-less Inv-loop μ-loop
+loop-less c = search needs
+
+loop-again : tie.Need-loop-again Inv-loop μ-loop
+unfolding offered-seat
+loop-again c =
+    let t = c .before .before .before in
+    scanned-next (t .before .loop .inv) (t .loop-test .taken) (ap (holds-both _ _) (sym (c .before .before .held-by .ensures 0 [])) ∙ sym (c .before .holds-both .ensures) ∙ c .if1 .left)
+
+returns-2 : tie.Need-returns-2 Inv-loop μ-loop
+returns-2 c = scanned-miss (c .before .loop .inv) (c .loop-test .left)
+
+pub offered-seat-spec : {M : Type 1} → statement M
+offered-seat-spec =
+    tie.close
+    (tie.spec
+    Inv-loop
+    μ-loop
+    loop-holds
+    held-by-requires
+    holds-both-requires
+    returns
+    add-i
+    loop-less
+    loop-again
+    returns-2)

@@ -1,0 +1,24 @@
+-- `seats::seating::pair_seat` meets its contract: it is the search with nothing added.
+-- Assumes nothing.
+use borrow.Author.Needs.{needs}
+use mathlib.Core.Path.{ap, _∙_}
+use Rattle.sets.proofs.Counting.{lowest-cong}
+use Rattle.graph.specs.Graph.{effective}
+use Rattle.graph.specs.Conflicts.{holds-pair}
+use Rattle.seats.specs.Seats.{seat-count, assigned, held, pair-seat}
+use Rattle.seats.proofs.Requests.{joint-none}
+use Rattle.seats.proofs.seating.pair_seat.Statement.{statement}
+use Rattle.seats.proofs.seating.pair_seat.Tie as tie
+
+pair-seat-with-requires : tie.Need-pair-seat-with-requires
+pair-seat-with-requires c κs = tt
+
+returns : tie.Need-returns
+unfolding pair-seat held assigned effective
+returns c =
+    let g = c .before .before .before .before .args in
+    c .pair-seat-with .ensures
+    ∙ lowest-cong seat-count _ _ (λ i h. ap (holds-pair (g .conflicts .now)) (joint-none (g .sets .now) (g .seats .now) 64 i))
+
+pub pair-seat-spec : {M : Type 1} → statement M
+pair-seat-spec = tie.close (tie.spec pair-seat-with-requires returns)

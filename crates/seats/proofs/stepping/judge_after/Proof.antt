@@ -1,0 +1,59 @@
+-- `seats::stepping::judge_after` meets its contract: the checks of the graph come first, then that of the seats.
+-- Assumes nothing.
+use borrow.Author.Needs.{needs}
+use mathlib.Core.Path.{sym, ap, _∙_}
+use Rattle.graph.specs.Graph.{effective}
+use Rattle.graph.specs.Refusing.{refused}
+use Rattle.graph.specs.Reading.{read-verdict}
+use Rattle.graph.proofs.Judging.{stops, moves-on, ends, refused-first, passed-first, place-found, place-none}
+use Rattle.seats.specs.Seats.{assigned, held, pair-seat}
+use Rattle.seats.proofs.stepping.judge_after.Statement.{statement}
+use Rattle.seats.proofs.stepping.judge_after.Tie as tie
+
+judge-closed-requires : tie.Need-judge-closed-requires
+judge-closed-requires c κs = tt
+
+enum-told : tie.Need-enum-told
+enum-told c = search needs
+
+enum-told-2 : tie.Need-enum-told-2
+enum-told-2 c = search needs
+
+pair-seat-requires : tie.Need-pair-seat-requires
+pair-seat-requires c κs = tt
+
+refuse-requires : tie.Need-refuse-requires
+refuse-requires c κs = tt
+
+returns : tie.Need-returns
+unfolding pair-seat held assigned effective
+returns c =
+    let q = c .before .before in
+    let t = q .before .before .before .before in
+    c .refuse .ensures ∙ ap (refused 30) (q .pair-seat .ensures)
+    ∙ sym (passed-first _ _ (t .before .before .judge-closed .ensures) (t .enum-told2 .given .1) ∙ stops _ _ (place-found _ (q .pair-seat .ensures) (c .before .if1 .taken)))
+
+returns-2 : tie.Need-returns-2
+returns-2 c = refused-first _ _ (c .before .before .judge-closed .ensures) (c .enum-told .given .1)
+
+returns-3 : tie.Need-returns-3
+unfolding pair-seat held assigned effective read-verdict
+returns-3 c =
+    let q = c .before in
+    let t = q .before .before .before .before in
+    let told = t .enum-told2 .given .1 in
+    ap read-verdict told ∙ ends
+    ∙ sym (passed-first _ _ (t .before .before .judge-closed .ensures) told ∙ moves-on _ _ (place-none _ (q .pair-seat .ensures) (c .if1 .left)))
+
+pub judge-after-spec : {M : Type 1} → statement M
+judge-after-spec =
+    tie.close
+    (tie.spec
+    judge-closed-requires
+    enum-told
+    enum-told-2
+    pair-seat-requires
+    refuse-requires
+    returns
+    returns-2
+    returns-3)

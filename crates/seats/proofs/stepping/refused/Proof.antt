@@ -1,0 +1,17 @@
+-- `seats::stepping::refused` meets its contract: the answer is the refusal.
+-- Assumes nothing.
+use borrow.Author.Needs.{needs}
+use mathlib.Core.Path.{refl}
+use Rattle.seats.specs.Reading.{read-answer}
+use Rattle.seats.proofs.stepping.refused.Statement.{statement}
+use Rattle.seats.proofs.stepping.refused.Tie as tie
+
+returns : tie.Need-returns
+unfolding read-answer
+returns c = (refl, refl, refl)
+
+pub refused-spec : {M : Type 1} → statement M
+refused-spec =
+    tie.close
+    (tie.spec
+    returns)

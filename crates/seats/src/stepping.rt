@@ -1,0 +1,218 @@
+// The step: what a record of any bytes makes of a state. Tables are decided on as they are lent, and what changes is stored.
+ghost use mathlib.Core.Path.{_≡_};
+ghost use mathlib.Core.List.{List, _++_};
+ghost use Prim.Native.Nat.{ℕ};
+ghost use Rattle.graph.specs.Refusing.{verdict, input-checks, state-checks};
+ghost use Rattle.graph.specs.Reading.{graph-of, read-verdict, read-change};
+ghost use Rattle.seats.specs.Calls.{change, accepted, refused, seat-checks, perform, settle, after};
+ghost use Rattle.seats.specs.Records.{step};
+ghost use Rattle.seats.specs.Working.{after-checks};
+ghost use Rattle.seats.specs.Reading.{state-of, read-state, read-answer, read-request};
+use crate::Answer;
+use crate::Call;
+use crate::Changed;
+use crate::Decoded;
+use crate::Request;
+use crate::State;
+use crate::Stepped;
+use crate::Taken;
+use crate::deciding;
+use crate::records;
+use crate::seating;
+use crate::seating::refusal;
+use graph::Change;
+use graph::Refusal;
+use graph::Verdict;
+use graph::checking;
+use graph::editing;
+use graph::refusing;
+use graph::refusing::refuse;
+use graph::table::store;
+
+// Refusal 24: kind 3 while a seat has the role.
+fn judge_removal(seats: &[u64], edit: Change) -> Verdict
+    ensures { λ v. ⌜ ((R : ℕ) (S C : List ℕ) → read-verdict v ≡ verdict (seat-checks (state-of R S C (now (seats .entry))) (read-change edit))) ⌝ }
+{
+    match edit {
+        Change::RemoveRole(a, _) => {
+            let place = seating::holder(seats, a);
+            if place < 64 {
+                return refuse(24, place);
+            }
+            Verdict::Passed
+        }
+        _ => Verdict::Passed,
+    }
+}
+
+// The refusals of a change that come before closing: 2 to 25.
+fn judge_before<'a>(
+    roles: u64,
+    sets: &'a [u64; 64],
+    seats: &'a [u64; 64],
+    edit: Change,
+) -> Verdict
+    ensures { λ v. let c = read-change edit in ⌜ ((C : List ℕ) → read-verdict v ≡ verdict ((input-checks c ++ state-checks (graph-of roles (now (sets .entry)) C) c) ++ seat-checks (state-of roles (now (sets .entry)) C (now (seats .entry))) c)) ⌝ }
+{
+    let verdict = checking::judge(roles, sets, edit);
+    match verdict {
+        Verdict::Refused(_) => verdict,
+        Verdict::Passed => judge_removal(seats, edit),
+    }
+}
+
+// The refusals of a change that come after closing, 26 to 30, by the graph that it would leave.
+fn judge_after<'a>(
+    roles: u64,
+    sets: &'a [u64; 64],
+    conflicts: &'a [u64; 64],
+    seats: &'a [u64; 64],
+    edit: Change,
+) -> Verdict
+    ensures { λ v. let h = state-of roles (now (sets .entry)) (now (conflicts .entry)) (now (seats .entry)) in ⌜ read-verdict v ≡ verdict (after-checks h (read-change edit)) ⌝ }
+{
+    let verdict = refusing::judge_closed(roles, sets, conflicts, edit);
+    match verdict {
+        Verdict::Refused(_) => verdict,
+        Verdict::Passed => {
+            let place = seating::pair_seat(sets, conflicts, seats);
+            if place < 64 {
+                return refuse(30, place);
+            }
+            verdict
+        }
+    }
+}
+
+// A refused change.
+fn refused(found: Refusal, roles: u64, sets: [u64; 64]) -> Changed
+    ensures { λ r. ⌜ (read-answer (r .answer) ≡ refused (found .number) (found .place)) × (r .roles ≡ roles) × (r .sets ≡ sets) ⌝ }
+{
+    Changed {
+        answer: Answer::Refused(found),
+        roles,
+        sets,
+    }
+}
+
+// A change of the graph, but for refusal 24: judged, carried out, and judged again.
+fn changed<'a>(
+    roles: u64,
+    sets: &'a [u64; 64],
+    conflicts: &'a [u64; 64],
+    seats: &'a [u64; 64],
+    edit: Change,
+) -> Changed
+    ensures { λ r. let s = state-of roles (now (sets .entry)) (now (conflicts .entry)) (now (seats .entry)) in let c = read-change edit in ⌜ (read-answer (r .answer), state-of (r .roles) (r .sets) (now (conflicts .entry)) (now (seats .entry))) ≡ settle (verdict ((input-checks c ++ state-checks (s .graph) c) ++ after-checks (after s (change c)) c)) accepted s (after s (change c)) ⌝ }
+{
+    let tried = editing::attempt(roles, sets, edit);
+    let next = tried.sets;
+    let before = tried.verdict;
+    match before {
+        Verdict::Refused(found) => refused(found, tried.roles, next),
+        Verdict::Passed => {
+            let after = judge_after(tried.roles, &next, conflicts, seats, edit);
+            match after {
+                Verdict::Refused(found) => refused(found, roles, *sets),
+                Verdict::Passed => Changed {
+                    answer: Answer::Accepted,
+                    roles: tried.roles,
+                    sets: next,
+                },
+            }
+        }
+    }
+}
+
+// A change of the graph on lent sets.
+fn take_change<'a>(
+    roles: u64,
+    sets: &mut [u64; 64],
+    conflicts: &'a [u64; 64],
+    seats: &'a [u64; 64],
+    edit: Change,
+) -> Taken
+    ensures { λ r. let s = state-of roles (now (sets .entry)) (now (conflicts .entry)) (now (seats .entry)) in ⌜ (read-answer (r .answer), state-of (r .roles) (now (sets .exit)) (now (conflicts .entry)) (now (seats .entry))) ≡ perform s (change (read-change edit)) ⌝ }
+{
+    let verdict = judge_before(roles, sets, seats, edit);
+    match verdict {
+        Verdict::Refused(found) => Taken {
+            answer: Answer::Refused(found),
+            roles,
+        },
+        Verdict::Passed => {
+            let next = changed(roles, sets, conflicts, seats, edit);
+            let answer = next.answer;
+            let after = next.sets;
+            *sets = after;
+            Taken {
+                answer,
+                roles: next.roles,
+            }
+        }
+    }
+}
+
+// A request on lent conflicts and seats.
+fn take_request(
+    roles: u64,
+    sets: &[u64; 64],
+    conflicts: &mut [u64; 64],
+    seats: &mut [u64; 64],
+    request: Request,
+) -> Taken
+    ensures { λ r. let s = state-of roles (now (sets .entry)) (now (conflicts .entry)) (now (seats .entry)) in ⌜ (read-answer (r .answer), state-of (r .roles) (now (sets .entry)) (now (conflicts .exit)) (now (seats .exit))) ≡ perform s (read-request request) ⌝ }
+{
+    let decision = deciding::decide(roles, sets, conflicts, seats, request);
+    let answer = decision.answer;
+    let conflict = decision.conflict;
+    let seat = decision.seat;
+    store(conflicts, conflict);
+    store(seats, seat);
+    Taken { answer, roles }
+}
+
+// A record on lent tables: refusal 1 before any field is looked at, or the call.
+pub fn take(
+    roles: u64,
+    sets: &mut [u64; 64],
+    conflicts: &mut [u64; 64],
+    seats: &mut [u64; 64],
+    bytes: &[u8],
+) -> Taken
+    ensures { λ r. ⌜ (read-answer (r .answer), state-of (r .roles) (now (sets .exit)) (now (conflicts .exit)) (now (seats .exit))) ≡ step (state-of roles (now (sets .entry)) (now (conflicts .entry)) (now (seats .entry))) (now (bytes .entry)) ⌝ }
+{
+    let decoded = records::decode(bytes);
+    let Decoded::WellFormed(step) = decoded else {
+        return Taken {
+            answer: refusal(1, 0),
+            roles,
+        };
+    };
+    let call = step.call;
+    match call {
+        Call::Change(change) => take_change(roles, sets, conflicts, seats, change),
+        Call::Request(request) => take_request(roles, sets, conflicts, seats, request),
+    }
+}
+
+// The step: any state, any bytes, to an answer and the next state.
+pub fn step(state: State, bytes: &[u8]) -> Stepped
+    ensures { λ r. ⌜ (read-answer (r .answer), read-state (r .state)) ≡ step (read-state state) (now (bytes .entry)) ⌝ }
+{
+    let mut sets = state.sets;
+    let mut conflicts = state.conflicts;
+    let mut seats = state.seats;
+    let taken = take(state.roles, &mut sets, &mut conflicts, &mut seats, bytes);
+    let answer = taken.answer;
+    let next = State {
+        roles: taken.roles,
+        sets,
+        conflicts,
+        seats,
+    };
+    Stepped {
+        answer,
+        state: next,
+    }
+}
