@@ -11,8 +11,8 @@ pub mod Stores
 pub mod Pairs
 pub mod ImageLength
 pub mod ImageReading
-pub mod SaveLoad
 pub mod LoadFacts
+pub mod SaveLoad
 pub mod LoadSave
 pub mod LoadKeeps
 pub mod SaveFacts
@@ -25,6 +25,8 @@ pub mod Putting
 pub mod Writing
 pub mod MemberEntries
 pub mod SaveParts
+pub mod EntryReading
+pub mod LoadChecks
 pub mod Scanning
 pub mod Requests
 pub mod Changing

@@ -2,13 +2,14 @@
 -- Assumes nothing.
 use mathlib.Core.Path.{_≡_, refl, sym, ap, _∙_}
 use mathlib.Core.Bool.{Bool, true, false, not, cond, _&&_, _||_}
+use mathlib.Core.Logic.{_⊎_, inl, inr}
 use mathlib.Core.List.{List, _++_}
 use Prim.Native.Nat.{ℕ, suc, _-_, _<_, _≤_}
 use native.Mathlib.Omega.{arith}
 use lib.ListN.{length}
-use lib.Dec.{T, not-T, eqb, leb, leb→le, ltb}
+use lib.Dec.{T, T-not, not-T, eqb, leb, leb→le, ltb, ltb→lt}
 use Rattle.sets.specs.Sets.{empty, included}
-use Rattle.sets.proofs.Tests.{both, or-left, or-right, so, test-equal}
+use Rattle.sets.proofs.Tests.{both, either, or-left, or-right, so, test-equal}
 use Rattle.graph.specs.Graph.{role-count, is-end}
 use Rattle.graph.specs.Refusing.{Verdict, passed, refused, verdict}
 use Rattle.seats.specs.Bytes.{number-at}
@@ -16,7 +17,7 @@ use Rattle.seats.specs.Seats.{State, seat-count}
 use Rattle.seats.specs.Images.{Entry, distance, Contents, contents, keys, restored, pair-place, no-ordinary-number, entry-checks, content-checks, Loaded, loaded, not-loaded, unless-refused, load-contents, load-trailer, load}
 use Rattle.graph.proofs.Refusals.{Passes, parts, passed-passes, number-lt}
 use Rattle.seats.proofs.Entries.{Each, each-map, each-zip}
-use Rattle.seats.proofs.Listing.{Rising, ordered-rising, none-each}
+use Rattle.seats.proofs.Listing.{Rising, ordered-rising, rising-ordered, none-each, each-none}
 use Rattle.seats.proofs.Pairs.{Pair}
 use Rattle.seats.proofs.ImageReading.{Says}
 
@@ -108,3 +109,41 @@ ordered c (no-roles, (no-pairs, (no-seats, (R, (C, (S, (lower, (none, (absent, _
     role e f =
         let h = number-lt (suc (e .key)) 2 (λ t. f (or-left (ltb (e .key) 2) (leb 64 (e .key)) t)) in
         (omega arith, number-lt 64 (e .key) (λ t. f (or-right (ltb (e .key) 2) (leb 64 (e .key)) t)))
+
+-- And back: where the entries are so, no check of them holds.
+pub ordered-passes : (c : Contents) → Ordered c → Passes (entry-checks c)
+unfolding Passes entry-checks no-ordinary-number is-end
+ordered-passes c o =
+    let R = c .roles in
+    let C = c .conflicts in
+    let S = c .seats in
+    let roles = each-none no-ordinary-number R (each-map R (λ e p t. no-role e p (either (is-end (e .key)) (leb 64 (e .key)) t)) (o .roles)) in
+    let pairs =
+    each-none (λ e. leb 64 (e .key) || leb 64 (e .value)) C (each-map C (λ e p t. no-pair e p (either (leb 64 (e .key)) (leb 64 (e .value)) t)) (o .conflicts)) in
+    let seats = each-none (λ e. leb 64 (e .key)) S (each-map S (λ e p t. let a = p .0 in let b = leb→le 64 (e .key) t in omega arith) (o .seats)) in
+    let lower = each-none (λ e. leb (e .value) (e .key)) C (each-map C (λ e p t. let a = p .0 in let b = leb→le (e .value) (e .key) t in omega arith) (o .conflicts)) in
+    let some-role = each-none (λ e. eqb (e .value) empty) S (each-map S (λ e p. T-not (eqb (e .value) empty) (p .1)) (o .seats)) in
+    let present-roles = each-none (λ e. not (included (e .value) (keys R))) S (each-map S (λ e p t. T-not (included (e .value) (keys R)) t (p .2)) (o .seats)) in (
+      roles,
+      (
+        pairs,
+        (
+          seats,
+          (
+            rising-ordered Entry.key 0 R (o .roles-rise),
+            (
+              rising-ordered pair-place 0 C (o .conflicts-rise),
+              (rising-ordered Entry.key 0 S (o .seats-rise), (lower, (some-role, (present-roles, tt)))),
+            ),
+          ),
+        ),
+      ),
+    )
+  where
+    no-role : (e : Entry) → (2 ≤ e .key) × (e .key < 64) → T (ltb (e .key) 2) ⊎ T (leb 64 (e .key)) → ⊥
+    no-role e p (inl t) = let a = p .0 in let b = ltb→lt (e .key) 2 t in omega arith
+    no-role e p (inr t) = let a = p .1 in let b = leb→le 64 (e .key) t in omega arith
+
+    no-pair : (e : Entry) → Pair e → T (leb 64 (e .key)) ⊎ T (leb 64 (e .value)) → ⊥
+    no-pair e p (inl t) = let a = p .0 in let c = p .1 in let b = leb→le 64 (e .key) t in omega arith
+    no-pair e p (inr t) = let a = p .1 in let b = leb→le 64 (e .value) t in omega arith

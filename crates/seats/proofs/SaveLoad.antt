@@ -1,37 +1,38 @@
 -- Saving, then loading: an image that ends any bytes loads as the state saved.
 -- Assumes nothing.
 use mathlib.Core.Path.{_≡_, refl, sym, _∙_, subst}
-use mathlib.Core.Bool.{not, _&&_, _||_}
-use mathlib.Core.Logic.{_⊎_, inl, inr}
+use mathlib.Core.Bool.{not, _&&_}
+use mathlib.Core.Logic.{inl, inr}
 use mathlib.Core.List.{List, _++_}
-use Prim.Native.Nat.{ℕ, _^_, _<_, _≤_}
+use Prim.Native.Nat.{ℕ, _^_, _<_}
 use native.Mathlib.Decide.{ℕ-discrete}
 use native.Mathlib.Omega.{arith}
 use lib.ListN.{set, replicate}
 use lib.Seq.{getD-set-other}
-use lib.Dec.{T, T-not, eqb, leb, leb→le, ltb, ltb→lt}
+use lib.Dec.{T, T-not, eqb}
 use Rattle.sets.specs.Counting.{any}
 use Rattle.sets.specs.Sets.{empty, member, included}
-use Rattle.sets.proofs.Tests.{both, either, so, test-equal}
+use Rattle.sets.proofs.Tests.{both, so, test-equal}
 use Rattle.sets.proofs.Counting.{any-some}
 use Rattle.sets.proofs.Laws.{member-lt, member-included}
 use Rattle.sets.proofs.Members.{same-members, no-members}
 use Rattle.graph.specs.Tables.{at}
-use Rattle.graph.specs.Graph.{Graph, role-count, max-role, is-end, ordinary, effective}
+use Rattle.graph.specs.Graph.{Graph, role-count, max-role, ordinary, effective}
 use Rattle.graph.specs.Refusing.{closed-checks}
 use Rattle.graph.specs.Invariants.{Formed}
 use Rattle.graph.proofs.Tables.{at-replicate}
 use Rattle.graph.proofs.Order.{ordinary-parts, ordinary-join, present-cases}
 use Rattle.seats.specs.Seats.{State, seat-count, assigned, pair-seat}
-use Rattle.seats.specs.Images.{Entry, role-entries, conflict-entries, seat-entries, image, Contents, keys, stored, restored, pair-place, no-ordinary-number, entry-checks, content-checks, loaded, unless-refused, load-contents, load}
+use Rattle.seats.specs.Images.{Entry, role-entries, conflict-entries, seat-entries, image, Contents, keys, stored, restored, pair-place, entry-checks, content-checks, loaded, unless-refused, load-contents, load}
 use Rattle.seats.specs.Invariants.{Invariant}
 use Rattle.graph.proofs.Refusals.{Passes, whole, verdict-passes, closed-goes}
 use Rattle.seats.proofs.Entries.{Each, each-map}
-use Rattle.seats.proofs.Listing.{valued, rising-by, rising-ordered, some-one, each-none, each-listed, rising-listed, listed-there}
+use Rattle.seats.proofs.Listing.{valued, rising-by, some-one, each-listed, rising-listed, listed-there}
 use Rattle.seats.proofs.Stores.{filled, member-keys, keys-lt, listed-stored}
 use Rattle.seats.proofs.Pairs.{Pair, pair-number, pair-at, has-pair, listed-pairs}
 use Rattle.seats.proofs.ImageLength.{role-keys, conflict-pairs, roles-bound, seats-bound, conflicts-bound}
 use Rattle.seats.proofs.ImageReading.{made-of, parts-load}
+use Rattle.seats.proofs.LoadFacts.{ordered-passes}
 
 -- What saving writes.
 abbrev pub saved : State → Contents
@@ -106,34 +107,20 @@ module _ (s : State) (v : Invariant s) where
       ))
 
   entries-pass : Passes (entry-checks (saved s))
-  unfolding Passes entry-checks no-ordinary-number is-end role-entries seat-entries conflict-entries pair-place
+  unfolding role-entries seat-entries conflict-entries pair-place
   entries-pass =
       let g = s .graph in
-      let R = role-entries g in
-      let C = conflict-entries g in
-      let S = seat-entries s in
-      let roles = each-none no-ordinary-number R (each-map R (λ e p t. no-role e p (either (is-end (e .key)) (leb 64 (e .key)) t)) (role-keys g)) in
-      let pairs =
-      each-none (λ e. leb 64 (e .key) || leb 64 (e .value)) C (each-map C (λ e p t. no-pair e p (either (leb 64 (e .key)) (leb 64 (e .value)) t)) (conflict-pairs g)) in
-      let seats = each-none (λ e. leb 64 (e .key)) S (each-map S (λ e p t. let a = p .0 in let b = leb→le 64 (e .key) t in omega arith) seat-facts) in
-      let roles-rise = rising-ordered Entry.key 0 R (rising-listed (ordinary g) (valued (effective g)) Entry.key (λ i. refl) 0 64) in
-      let pairs-rise =
-      rising-ordered pair-place 0 C
-      (rising-by pair-number pair-place Pair (λ e f x y m. let a = x .1 in let b = y .1 in omega arith) C (conflict-pairs g)
-      (rising-listed (has-pair (g .conflicts)) pair-at pair-number (λ i. omega arith) 0 4096)) in
-      let seats-rise = rising-ordered Entry.key 0 S (rising-listed (filled (s .seats)) (valued (at (s .seats))) Entry.key (λ i. refl) 0 64) in
-      let lower = each-none (λ e. leb (e .value) (e .key)) C (each-map C (λ e p t. let a = p .0 in let b = leb→le (e .value) (e .key) t in omega arith) (conflict-pairs g)) in
-      let some-role = each-none (λ e. eqb (e .value) empty) S (each-map S (λ e p. T-not (eqb (e .value) empty) (p .1)) seat-facts) in
-      let present-roles = each-none (λ e. not (included (e .value) (keys R))) S (each-map S (λ e p t. T-not (included (e .value) (keys R)) t (p .2)) seat-facts) in
-      (roles, (pairs, (seats, (roles-rise, (pairs-rise, (seats-rise, (lower, (some-role, (present-roles, tt)))))))))
-    where
-      no-role : (e : Entry) → (2 ≤ e .key) × (e .key < 64) → T (ltb (e .key) 2) ⊎ T (leb 64 (e .key)) → ⊥
-      no-role e p (inl t) = let a = p .0 in let b = ltb→lt (e .key) 2 t in omega arith
-      no-role e p (inr t) = let a = p .1 in let b = leb→le 64 (e .key) t in omega arith
-
-      no-pair : (e : Entry) → Pair e → T (leb 64 (e .key)) ⊎ T (leb 64 (e .value)) → ⊥
-      no-pair e p (inl t) = let a = p .0 in let c = p .1 in let b = leb→le 64 (e .key) t in omega arith
-      no-pair e p (inr t) = let a = p .1 in let b = leb→le 64 (e .value) t in omega arith
+      ordered-passes (saved s)
+      (record {
+        roles-rise = rising-listed (ordinary g) (valued (effective g)) Entry.key (λ i. refl) 0 64;
+        roles = role-keys g;
+        conflicts-rise =
+            rising-by pair-number pair-place Pair (λ e f x y m. let a = x .1 in let b = y .1 in omega arith) (conflict-entries g) (conflict-pairs g)
+            (rising-listed (has-pair (g .conflicts)) pair-at pair-number (λ i. omega arith) 0 4096);
+        conflicts = conflict-pairs g;
+        seats-rise = rising-listed (filled (s .seats)) (valued (at (s .seats))) Entry.key (λ i. refl) 0 64;
+        seats = seat-facts;
+      })
 
   state-passes : Passes (content-checks s)
   unfolding Passes content-checks closed-checks

@@ -1,5 +1,8 @@
 // Seats over the role graph: records and the calls they carry, asks, images, and the lines of a tape.
 pub mod deciding;
+mod endian;
+mod layout;
+pub mod loading;
 pub mod records;
 pub mod saving;
 pub mod seating;
@@ -78,6 +81,12 @@ pub struct Taken {
 
 // What a record comes to: its answer, and the state after it.
 pub struct Stepped {
+    pub answer: Answer,
+    pub state: State,
+}
+
+// What loading answers, and the state after it.
+pub struct Loaded {
     pub answer: Answer,
     pub state: State,
 }

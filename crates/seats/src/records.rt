@@ -2,7 +2,7 @@
 ghost use mathlib.Core.Path.{_≡_};
 ghost use mathlib.Core.Bool.{cond, _&&_};
 ghost use mathlib.Core.List.{[], _∷_};
-ghost use Prim.Native.Nat.{_+_, _≤_, _<_};
+ghost use Prim.Native.Nat.{_≤_};
 ghost use lib.ListN.{length, getD};
 ghost use lib.Dec.{leb};
 ghost use Rattle.graph.specs.Reading.{read-change};
@@ -10,41 +10,18 @@ ghost use Rattle.seats.specs.Bytes.{number-at};
 ghost use Rattle.seats.specs.Calls.{change};
 ghost use Rattle.seats.specs.Records.{malformed, well-formed, all-empty, kinds, decode};
 ghost use Rattle.seats.specs.Reading.{read-call, read-request, read-decoded};
-ghost use Rattle.seats.specs.Working.{quad-of, fields-of};
+ghost use Rattle.seats.specs.Working.{fields-of};
 use crate::Call;
 use crate::Decoded;
 use crate::Request;
 use crate::Seat;
 use crate::Step;
+use crate::endian::quad;
+use crate::endian::wide;
+use crate::endian::word;
 use graph::Change;
 use graph::Privilege;
 use graph::Role;
-
-// A byte as a word, with its bound.
-fn wide(x: u8) -> u64
-    ensures { λ r. ⌜ (r ≡ x) × (r < 256) ⌝ }
-{
-    x as u64
-}
-
-// The little-endian number of the four bytes at place i.
-fn quad(bytes: &[u8], i: usize) -> u64
-    requires { ⌜ i + 4 ≤ length (now bytes) ⌝ }
-    ensures { λ r. ⌜ (r ≡ quad-of (now (bytes .entry)) i) × (r < 4294967296) ⌝ }
-{
-    wide(bytes[i])
-        + 256 * wide(bytes[i + 1])
-        + 65536 * wide(bytes[i + 2])
-        + 16777216 * wide(bytes[i + 3])
-}
-
-// The little-endian number of the eight bytes at place i.
-fn word(bytes: &[u8], i: usize) -> u64
-    requires { ⌜ i + 8 ≤ length (now bytes) ⌝ }
-    ensures { λ r. ⌜ r ≡ number-at 8 i (now (bytes .entry)) ⌝ }
-{
-    quad(bytes, i) + 4294967296 * quad(bytes, i + 4)
-}
 
 // The little-endian number of bytes 3 to 7, which is zero where each of them is.
 fn spare(bytes: &[u8]) -> u64

@@ -12,15 +12,14 @@ ghost use Rattle.graph.specs.Conflicts.{conflict};
 ghost use Rattle.graph.specs.Reading.{graph-of};
 ghost use Rattle.seats.specs.Seats.{seat-count};
 ghost use Rattle.seats.specs.Bytes.{bytes-of};
-ghost use Rattle.seats.specs.Images.{set-bytes, privilege-bytes, entry-bytes, distance, trailer};
+ghost use Rattle.seats.specs.Images.{set-bytes, privilege-bytes, entry-bytes, trailer};
 ghost use Rattle.seats.specs.Saving.{save};
 ghost use Rattle.seats.specs.Reading.{read-filled};
 ghost use Rattle.seats.specs.ImageWork.{Wrote, table-entries, row-entries, pair-entries};
 use crate::Filled;
+use crate::layout::ENDS;
+use crate::layout::distance;
 use graph::Refusal;
-
-// MinRole and MaxRole, as a set.
-const ENDS: u64 = 3;
 
 // The n bytes of x, little-endian, at a place; gives the place behind them.
 fn put_number(buffer: &mut [u8], at: usize, n: usize, x: u64) -> usize
@@ -122,14 +121,6 @@ fn occupied(seats: &[u64; 64]) -> u64
         found = sets::union(one, found);
     }
     found
-}
-
-// The distance from an image's end back to its start.
-fn distance(roles: usize, seats: usize, conflicts: usize) -> usize
-    requires { ⌜ (roles < 256) × (seats < 256) × (conflicts < 65536) ⌝ }
-    ensures { λ r. ⌜ (r ≡ distance roles seats conflicts) × (r < 140000) ⌝ }
-{
-    16 + 9 * roles + 9 * seats + 2 * conflicts
 }
 
 // The trailer.

@@ -46,12 +46,7 @@ fn judge_removal(seats: &[u64], edit: Change) -> Verdict
 }
 
 // The refusals of a change that come before closing: 2 to 25.
-fn judge_before<'a>(
-    roles: u64,
-    sets: &'a [u64; 64],
-    seats: &'a [u64; 64],
-    edit: Change,
-) -> Verdict
+fn judge_before<'a>(roles: u64, sets: &'a [u64; 64], seats: &'a [u64; 64], edit: Change) -> Verdict
     ensures { λ v. let c = read-change edit in ⌜ ((C : List ℕ) → read-verdict v ≡ verdict ((input-checks c ++ state-checks (graph-of roles (now (sets .entry)) C) c) ++ seat-checks (state-of roles (now (sets .entry)) C (now (seats .entry))) c)) ⌝ }
 {
     let verdict = checking::judge(roles, sets, edit);

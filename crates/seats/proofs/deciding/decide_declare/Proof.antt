@@ -61,7 +61,7 @@ none-requires : tie.Need-none-requires
 none-requires c κs = tt
 
 returns-2 : tie.Need-returns-2
-unfolding read-verdict read-answer checks 
+unfolding read-verdict read-answer checks
 returns-2 c =
     let g = c .before .before .before .before .before .before .before .before .args in
     let s = state-of (g .roles) (g .sets .now) (g .conflicts .now) (g .seats .now) in

@@ -1,10 +1,10 @@
--- `records::word` meets its contract: eight bytes are four and four.
+-- `endian::word` meets its contract: eight bytes are four and four.
 -- Assumes nothing.
 use borrow.Author.Needs.{needs}
 use native.Mathlib.Omega.{arith}
 use Rattle.seats.proofs.Words.{eight-bytes}
-use Rattle.seats.proofs.records.word.Statement.{statement}
-use Rattle.seats.proofs.records.word.Tie as tie
+use Rattle.seats.proofs.endian.word.Statement.{statement}
+use Rattle.seats.proofs.endian.word.Tie as tie
 
 quad-requires : tie.Need-quad-requires
 quad-requires c κs = search needs

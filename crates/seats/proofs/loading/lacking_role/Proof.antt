@@ -1,0 +1,94 @@
+-- `seats::loading::lacking_role` meets its contract: it searches the ordinary roles for one that holds a privilege which MaxRole lacks.
+-- Assumes nothing.
+use borrow.Author.Needs.{needs}
+use mathlib.Core.Bool.{Bool, not}
+use mathlib.Core.List.{List}
+use mathlib.Core.Path.{sym, ap, _∙_}
+use Prim.Native.Nat.{ℕ}
+use Rattle.sets.specs.Sets.{difference, included}
+use Rattle.sets.proofs.Laws.{difference-lt}
+use Rattle.graph.specs.Tables.{at}
+use Rattle.graph.specs.Graph.{role-count, effective}
+use Rattle.graph.proofs.Searching.{Search, starts, visit-lt, hit, goes-on, falls, miss, among-ordinary}
+use Rattle.seats.proofs.loading.lacking_role.Statement.{statement}
+use Rattle.seats.proofs.loading.lacking_role.Tie as tie
+
+-- Role r holds a privilege that the set lacks.
+abbrev lacks : ℕ → List ℕ → ℕ → Bool
+lacks top sets r = not (included (at sets r) top)
+
+abbrev Inv-loop : tie.InvT-loop
+Inv-loop roles sets top rest₀ rest = Search (lacks top sets) (difference roles 3) rest
+
+abbrev μ-loop : tie.MeasureT-loop
+μ-loop roles sets top rest₀ rest = rest
+
+element-copy-out-top : tie.Need-element-copy-out-top Inv-loop μ-loop
+element-copy-out-top c = search needs
+
+difference-requires : tie.Need-difference-requires Inv-loop μ-loop
+difference-requires c κs = search needs
+
+loop-holds : tie.Need-loop-holds Inv-loop μ-loop
+loop-holds c = rw (c .difference .ensures) (starts _ _ (difference-lt role-count _ _ (search needs)))
+
+lowest-member-requires : tie.Need-lowest-member-requires Inv-loop μ-loop
+lowest-member-requires c κs = search needs
+
+cast-r : tie.Need-cast-r Inv-loop μ-loop
+cast-r c = search needs
+
+mul-included : tie.Need-mul-included Inv-loop μ-loop
+mul-included c = search needs
+
+element-copy-out-included : tie.Need-element-copy-out-included Inv-loop μ-loop
+element-copy-out-included c = visit-lt (c .before .before .loop .inv) (c .before .loop-test .taken) (c .lowest-member .ensures)
+
+included-requires : tie.Need-included-requires Inv-loop μ-loop
+included-requires c κs = search needs
+
+returns : tie.Need-returns Inv-loop μ-loop
+unfolding at effective
+returns c =
+    let b = c .before .before .before in
+    hit (b .before .before .loop .inv) (b .before .loop-test .taken) (b .lowest-member .ensures) (sym (ap not (c .before .included .ensures)) ∙ c .if1 .taken)
+    ∙ among-ordinary _ _
+
+without-lowest-requires : tie.Need-without-lowest-requires Inv-loop μ-loop
+without-lowest-requires c κs = search needs
+
+loop-less : tie.Need-loop-less Inv-loop μ-loop
+loop-less c =
+    let b = c .before .before .before .before in
+    falls (b .before .before .loop .inv) (b .before .loop-test .taken) (b .lowest-member .ensures) (c .without-lowest .ensures)
+
+loop-again : tie.Need-loop-again Inv-loop μ-loop
+unfolding at
+loop-again c =
+    let b = c .before .before .before .before in
+    goes-on (b .before .before .loop .inv) (b .before .loop-test .taken) (b .lowest-member .ensures) (c .without-lowest .ensures)
+    (sym (ap not (c .before .before .included .ensures)) ∙ c .before .if1 .left)
+
+returns-2 : tie.Need-returns-2 Inv-loop μ-loop
+unfolding at effective
+returns-2 c = miss (c .before .loop .inv) (c .loop-test .left) ∙ among-ordinary _ _
+
+pub lacking-role-spec : {M : Type 1} → statement M
+lacking-role-spec =
+    tie.close
+    (tie.spec
+    Inv-loop
+    μ-loop
+    element-copy-out-top
+    difference-requires
+    loop-holds
+    lowest-member-requires
+    cast-r
+    mul-included
+    element-copy-out-included
+    included-requires
+    returns
+    without-lowest-requires
+    loop-less
+    loop-again
+    returns-2)

@@ -1,0 +1,149 @@
+-- `seats::loading::load` meets its contract: the trailer, then the entries, then the state that they describe are tested, with one return each.
+-- Assumes nothing.
+use borrow.Author.Needs.{needs}
+use borrow.Author.Tests.{not-true, not-false}
+use mathlib.Core.Path.{_≡_, sym, _∙_}
+use Prim.Native.Nat.{_-_}
+use lib.ListN.{length}
+use Rattle.seats.specs.Images.{contents, load-contents, load}
+use Rattle.seats.specs.Reading.{read-answer}
+use Rattle.seats.proofs.Words.{one-byte, four-bytes}
+use Rattle.seats.proofs.LoadChecks.{Trailed, too-few-bytes, other-distance, beyond-bytes, contents-decide, entries-refused, state-refused, state-loaded, refused-load, accepted-load}
+use Rattle.seats.proofs.loading.load.Statement.{statement}
+use Rattle.seats.proofs.loading.load.Tie as tie
+
+-- The trailer as it was read.
+trailed : (c : tie.After-half) → Trailed (c .before .before .before .before .before .before .before .before .args .bytes .now) (c .before .before .before .before .before .quad .result) (c .before .before .before .wide .result) (c .before .wide2 .result) (c .half .result)
+trailed c = record {
+  far-is = c .before .before .before .before .before .quad .ensures .0 ∙ four-bytes _ _;
+  roles-are = c .before .before .before .wide .ensures .0 ∙ one-byte _ _;
+  seats-are = c .before .wide2 .ensures .0 ∙ one-byte _ _;
+  conflicts-are = c .half .ensures .0;
+}
+
+-- Past the returns with 6 the contents decide.
+placed : (c : tie.Else3) → (
+    let b = c .before .before .before in
+    let l = b .before .before .before .before .before .before .before .before .args .bytes .now in
+    let far = b .before .before .before .before .before .quad .result in
+    load l ≡ load-contents (contents l (length l - far) (b .before .before .before .wide .result) (b .before .wide2 .result) (b .half .result)))
+placed c =
+    let b = c .before .before .before in
+    contents-decide (b .before .before .before .before .before .before .if1 .left) (trailed b) (c .before .if2 .left ∙ c .before .before .distance .ensures .0) (c .if3 .left)
+
+refuse-requires : tie.Need-refuse-requires
+refuse-requires c κs = search needs
+
+returns : tie.Need-returns
+returns c = refused-load _ _ 6 (too-few-bytes _ (c .before .if1 .taken)) (c .refuse .ensures .0) (c .refuse .ensures .1)
+
+sub-quad : tie.Need-sub-quad
+sub-quad c = search needs
+
+quad-requires : tie.Need-quad-requires
+quad-requires c κs = search needs
+
+sub-wide : tie.Need-sub-wide
+sub-wide c = search needs
+
+shared-slice-read-wide : tie.Need-shared-slice-read-wide
+shared-slice-read-wide c = search needs
+
+wide-requires : tie.Need-wide-requires
+wide-requires c κs = search needs
+
+sub-wide-2 : tie.Need-sub-wide-2
+sub-wide-2 c = search needs
+
+shared-slice-read-wide-2 : tie.Need-shared-slice-read-wide-2
+shared-slice-read-wide-2 c = search needs
+
+wide-requires-2 : tie.Need-wide-requires-2
+wide-requires-2 c κs = search needs
+
+sub-half : tie.Need-sub-half
+sub-half c = search needs
+
+half-requires : tie.Need-half-requires
+half-requires c κs = search needs
+
+distance-requires : tie.Need-distance-requires
+distance-requires c κs = search needs
+
+refuse-requires-2 : tie.Need-refuse-requires-2
+refuse-requires-2 c κs = search needs
+
+returns-2 : tie.Need-returns-2
+returns-2 c =
+    let b = c .before .before .before in
+    let e = other-distance (b .before .before .before .before .before .before .if1 .left) (trailed b) (λ e. c .before .if2 .taken (e ∙ sym (c .before .before .distance .ensures .0))) in
+    refused-load _ _ 6 e (c .refuse2 .ensures .0) (c .refuse2 .ensures .1)
+
+refuse-requires-3 : tie.Need-refuse-requires-3
+refuse-requires-3 c κs = search needs
+
+returns-3 : tie.Need-returns-3
+returns-3 c =
+    let b = c .before .before .before .before in
+    let e = beyond-bytes (b .before .before .before .before .before .before .if1 .left) (trailed b) (c .before .before .if2 .left ∙ c .before .before .before .distance .ensures .0) (c .before .if3 .taken) in
+    refused-load _ _ 6 e (c .refuse3 .ensures .0) (c .refuse3 .ensures .1)
+
+read-contents-requires : tie.Need-read-contents-requires
+read-contents-requires c κs = search needs
+
+refuse-requires-4 : tie.Need-refuse-requires-4
+refuse-requires-4 c κs = search needs
+
+returns-4 : tie.Need-returns-4
+returns-4 c =
+    let r = c .before .before .before in
+    refused-load _ _ 7 (placed (r .before) ∙ entries-refused (r .read-contents .ensures) (not-true _ (c .before .if4 .taken))) (c .refuse4 .ensures .0) (c .refuse4 .ensures .1)
+
+is-sound-requires : tie.Need-is-sound-requires
+is-sound-requires c κs = search needs
+
+refuse-requires-5 : tie.Need-refuse-requires-5
+refuse-requires-5 c κs = search needs
+
+returns-5 : tie.Need-returns-5
+returns-5 c =
+    let t = c .before .before .before .before .before .before .before .before in
+    let r = t .before .before in
+    refused-load _ _ 8 (placed (r .before) ∙ state-refused (r .read-contents .ensures) (not-false _ (t .if4 .left)) (c .before .before .is-sound .result) (c .before .before .is-sound .ensures) (not-true _ (c .before .if5 .taken)))
+    (c .refuse5 .ensures .0) (c .refuse5 .ensures .1)
+
+returns-6 : tie.Need-returns-6
+unfolding read-answer
+returns-6 c =
+    let t = c .before .before .before .before .before .before .before in
+    let r = t .before .before in
+    accepted-load _ _ _ (placed (r .before) ∙ state-loaded (r .read-contents .ensures) (not-false _ (t .if4 .left)) (c .before .is-sound .result) (c .before .is-sound .ensures) (not-false _ (c .if5 .left)))
+
+pub load-spec : {M : Type 1} → statement M
+load-spec =
+    tie.close
+    (tie.spec
+    refuse-requires
+    returns
+    sub-quad
+    quad-requires
+    sub-wide
+    shared-slice-read-wide
+    wide-requires
+    sub-wide-2
+    shared-slice-read-wide-2
+    wide-requires-2
+    sub-half
+    half-requires
+    distance-requires
+    refuse-requires-2
+    returns-2
+    refuse-requires-3
+    returns-3
+    read-contents-requires
+    refuse-requires-4
+    returns-4
+    is-sound-requires
+    refuse-requires-5
+    returns-5
+    returns-6)

@@ -1,0 +1,252 @@
+// Loading: the state of the image that ends any bytes, or the refusal of it.
+ghost use mathlib.Core.Path.{_≡_};
+ghost use mathlib.Core.Bool.{not, cond, _&&_};
+ghost use Prim.Native.Nat.{_+_, _*_, _≤_, _<_};
+ghost use lib.ListN.{length};
+ghost use lib.Dec.{leb};
+ghost use Rattle.sets.specs.Counting.{lowest};
+ghost use Rattle.sets.specs.Sets.{single, included};
+ghost use Rattle.graph.specs.Graph.{role-count, max-role, ordinary, effective};
+ghost use Rattle.graph.specs.Refusing.{passed, verdict};
+ghost use Rattle.graph.specs.Refusing as refusing;
+ghost use Rattle.graph.specs.Reading.{drawn-from, graph-of};
+ghost use Rattle.seats.specs.Calls.{refused};
+ghost use Rattle.seats.specs.Images.{set-bytes, privilege-bytes, distance, entries-at, contents, pair-place, content-checks, load-over};
+ghost use Rattle.seats.specs.Reading.{read-answer, read-state};
+ghost use Rattle.seats.specs.ImageWork.{entry-of, numbered, paired, TableRead, PairsRead, ContentsRead};
+use crate::Answer;
+use crate::Loaded;
+use crate::State;
+use crate::endian::half;
+use crate::endian::quad;
+use crate::endian::wide;
+use crate::endian::word;
+use crate::layout::ENDS;
+use crate::layout::distance;
+use crate::seating::pair_seat;
+use graph::Refusal;
+use graph::refusing::empty_role;
+use graph::refusing::pair_role;
+use graph::refusing::twin_role;
+
+// The set of all roles or privileges.
+const ALL: u64 = 0xffff_ffff_ffff_ffff;
+
+// The keys of a table that was read, and whether none of its entries is refused.
+struct Keys {
+    set: u64,
+    sound: bool,
+}
+
+// The state that the contents of an image describe, and whether none of their entries is refused.
+struct Contents {
+    state: State,
+    sound: bool,
+}
+
+// The set whose only member is n, by a shift, since the readers make one for each entry.
+fn only(n: usize) -> u64
+    requires { ⌜ n < 64 ⌝ }
+    ensures { λ r. ⌜ r ≡ single n ⌝ }
+{
+    1u64 << n
+}
+
+// Whether a table's key is from low on and a number below 64, and its set is from least on and inside what is allowed.
+fn admits(low: u8, least: u64, allowed: u64, key: u8, set: u64) -> bool
+    ensures { λ r. ⌜ r ≡ (leb low key && numbered least allowed (entry-of key set)) ⌝ }
+{
+    if key < low {
+        return false;
+    }
+    if 64 <= key {
+        return false;
+    }
+    if set < least {
+        return false;
+    }
+    sets::included(set, allowed)
+}
+
+// Stores count entries, strictly ascending from low on, in a table: the roles or the seats.
+fn read_table(
+    bytes: &[u8],
+    at: usize,
+    count: usize,
+    low: u8,
+    least: u64,
+    allowed: u64,
+    table: &mut [u64; 64],
+) -> Keys
+    requires { ⌜ at + 9 * count ≤ length (now bytes) ⌝ }
+    ensures { λ r. ⌜ TableRead (entries-at set-bytes at count (now (bytes .entry))) low least allowed (now (table .entry)) (now (table .exit)) (r .set) (r .sound) ⌝ }
+{
+    let mut set: u64 = 0;
+    let mut floor = low;
+    let mut place = at;
+    let mut left = count;
+    while left != 0 {
+        let key = bytes[place];
+        let value = word(bytes, place + 1);
+        if !admits(floor, least, allowed, key, value) {
+            return Keys { set, sound: false };
+        }
+        let k = key as usize;
+        set = sets::union(set, only(k));
+        table[k] = value;
+        floor = key + 1;
+        place += 9;
+        left -= 1;
+    }
+    Keys { set, sound: true }
+}
+
+// Whether a conflict's place is from low on, its first privilege is the lower, and both are numbers below 64.
+fn admits_pair(low: usize, lower: u8, higher: u8) -> bool
+    ensures { λ r. ⌜ r ≡ (leb low (pair-place (entry-of lower higher)) && paired (entry-of lower higher)) ⌝ }
+{
+    if 256 * (lower as usize) + (higher as usize) < low {
+        return false;
+    }
+    if higher <= lower {
+        return false;
+    }
+    higher < 64
+}
+
+// Puts count conflicts, strictly ascending, into a table; gives whether none of them is refused.
+fn read_pairs(bytes: &[u8], at: usize, count: usize, table: &mut [u64; 64]) -> bool
+    requires { ⌜ at + 2 * count ≤ length (now bytes) ⌝ }
+    ensures { λ r. ⌜ PairsRead (entries-at privilege-bytes at count (now (bytes .entry))) (now (table .entry)) (now (table .exit)) r ⌝ }
+{
+    let mut floor: usize = 0;
+    let mut place = at;
+    let mut left = count;
+    while left != 0 {
+        let lower = bytes[place];
+        let higher = bytes[place + 1];
+        if !admits_pair(floor, lower, higher) {
+            return false;
+        }
+        let a = lower as usize;
+        let b = higher as usize;
+        table[a] = sets::union(table[a], only(b));
+        floor = 256 * a + b + 1;
+        place += 2;
+        left -= 1;
+    }
+    true
+}
+
+// The contents at a place, with so many roles, seats and conflicts.
+fn read_contents(bytes: &[u8], at: usize, r: usize, s: usize, c: usize) -> Contents
+    requires { ⌜ at + distance r s c ≤ length (now bytes) ⌝ }
+    ensures { λ x. ⌜ ContentsRead (contents (now (bytes .entry)) at r s c) (read-state (x .state)) (x .sound) ⌝ }
+{
+    let roles_at = at + 8;
+    let conflicts_at = roles_at + 9 * r;
+    let seats_at = conflicts_at + 2 * c;
+    let mut sets = [0u64; 64];
+    sets[1] = word(bytes, at);
+    let roles = read_table(bytes, roles_at, r, 2, 0, ALL, &mut sets);
+    let mut conflicts = [0u64; 64];
+    let pairs = read_pairs(bytes, conflicts_at, c, &mut conflicts);
+    let mut seats = [0u64; 64];
+    let present = roles.set;
+    let seated = read_table(bytes, seats_at, s, 0, 1, present, &mut seats);
+    let state = State {
+        roles: present,
+        sets,
+        conflicts,
+        seats,
+    };
+    Contents {
+        state,
+        sound: roles.sound & pairs & seated.sound,
+    }
+}
+
+// The lowest ordinary role with a privilege that MaxRole lacks; 64 where there is none.
+fn lacking_role(roles: u64, sets: &[u64; 64]) -> usize
+    ensures { λ r. let g = drawn-from roles (now (sets .entry)) in ⌜ r ≡ lowest role-count (λ r. ordinary g r && not (included (effective g r) (effective g max-role))) ⌝ }
+{
+    let top = sets[1];
+    let mut rest = sets::difference(roles, ENDS);
+    while rest != 0 {
+        let r = sets::lowest_member(rest) as usize;
+        if !sets::included(sets[r], top) {
+            return r;
+        }
+        rest = sets::without_lowest(rest);
+    }
+    64
+}
+
+// Whether no condition of refusal 8 holds of a state, tested in their order.
+fn is_sound<'a>(
+    roles: u64,
+    sets: &'a [u64; 64],
+    conflicts: &'a [u64; 64],
+    seats: &'a [u64; 64],
+) -> bool
+    ensures { λ r. ⌜ verdict (content-checks (record { graph = graph-of roles (now (sets .entry)) (now (conflicts .entry)); seats = now (seats .entry) })) ≡ cond r passed (refusing.refused 8 0) ⌝ }
+{
+    if empty_role(roles, sets) < 64 {
+        return false;
+    }
+    if twin_role(roles, sets) < 64 {
+        return false;
+    }
+    if pair_role(roles, sets, conflicts) < 64 {
+        return false;
+    }
+    if pair_seat(sets, conflicts, seats) < 64 {
+        return false;
+    }
+    if lacking_role(roles, sets) < 64 {
+        return false;
+    }
+    true
+}
+
+// A refusal that keeps the state at hand.
+fn refuse(state: State, number: u8) -> Loaded
+    ensures { λ r. ⌜ (read-answer (r .answer) ≡ refused number 0) × (read-state (r .state) ≡ read-state state) ⌝ }
+{
+    let answer = Answer::Refused(Refusal { number, place: 0 });
+    Loaded { answer, state }
+}
+
+// The state of the image that ends the bytes; a refused load keeps the state at hand.
+pub fn load(state: State, bytes: &[u8]) -> Loaded
+    ensures { λ r. ⌜ (read-answer (r .answer), read-state (r .state)) ≡ load-over (read-state state) (now (bytes .entry)) ⌝ }
+{
+    let end = bytes.len();
+    if end < 16 {
+        return refuse(state, 6);
+    }
+    let far = quad(bytes, end - 8) as usize;
+    let r = wide(bytes[end - 4]) as usize;
+    let s = wide(bytes[end - 3]) as usize;
+    let c = half(bytes, end - 2) as usize;
+    if far != distance(r, s, c) {
+        return refuse(state, 6);
+    }
+    if end < far {
+        return refuse(state, 6);
+    }
+    let found = read_contents(bytes, end - far, r, s, c);
+    if !found.sound {
+        return refuse(state, 7);
+    }
+    let next = found.state;
+    let roles = next.roles;
+    if !is_sound(roles, &next.sets, &next.conflicts, &next.seats) {
+        return refuse(state, 8);
+    }
+    let answer = Answer::Accepted;
+    Loaded {
+        answer,
+        state: next,
+    }
+}
