@@ -18,6 +18,7 @@ pub mod LoadKeeps
 pub mod SaveFacts
 pub mod LoadRefusals
 pub mod ListTheorem
+pub mod Keepers
 pub mod Words
 pub mod Decoding
 pub mod Digits

@@ -11,4 +11,5 @@ pub mod Working
 pub mod ImageWork
 pub mod Invariants
 pub mod ListTheorem
+pub mod Promises
 pub mod Computes

@@ -11,8 +11,9 @@ ghost use Rattle.graph.specs.Refusing.{passed, verdict};
 ghost use Rattle.graph.specs.Refusing as refusing;
 ghost use Rattle.graph.specs.Reading.{drawn-from, graph-of};
 ghost use Rattle.seats.specs.Calls.{refused};
-ghost use Rattle.seats.specs.Images.{set-bytes, privilege-bytes, distance, entries-at, contents, pair-place, content-checks, load-over};
+ghost use Rattle.seats.specs.Images.{set-bytes, privilege-bytes, distance, entries-at, contents, pair-place, content-checks};
 ghost use Rattle.seats.specs.Reading.{read-answer, read-state};
+ghost use Rattle.seats.specs.Promises.{LoadPromise};
 ghost use Rattle.seats.specs.ImageWork.{entry-of, numbered, paired, TableRead, PairsRead, ContentsRead};
 use crate::Answer;
 use crate::Loaded;
@@ -219,7 +220,7 @@ fn refuse(state: State, number: u8) -> Loaded
 
 // The state of the image that ends the bytes; a refused load keeps the state at hand.
 pub fn load(state: State, bytes: &[u8]) -> Loaded
-    ensures { λ r. ⌜ (read-answer (r .answer), read-state (r .state)) ≡ load-over (read-state state) (now (bytes .entry)) ⌝ }
+    ensures { λ r. ⌜ LoadPromise state (now (bytes .entry)) (r .answer) (r .state) ⌝ }
 {
     let end = bytes.len();
     if end < 16 {

@@ -6,8 +6,9 @@ ghost use Rattle.graph.specs.Refusing.{verdict, input-checks, state-checks};
 ghost use Rattle.graph.specs.Reading.{graph-of, read-verdict, read-change};
 ghost use Rattle.seats.specs.Calls.{change, accepted, refused, seat-checks, perform, settle, after};
 ghost use Rattle.seats.specs.Records.{step};
+ghost use Rattle.seats.specs.Promises.{StepPromise};
 ghost use Rattle.seats.specs.Working.{after-checks};
-ghost use Rattle.seats.specs.Reading.{state-of, read-state, read-answer, read-request};
+ghost use Rattle.seats.specs.Reading.{state-of, read-answer, read-request};
 use crate::Answer;
 use crate::Call;
 use crate::Changed;
@@ -193,7 +194,7 @@ pub fn take(
 
 // The step: any state, any bytes, to an answer and the next state.
 pub fn step(state: State, bytes: &[u8]) -> Stepped
-    ensures { λ r. ⌜ (read-answer (r .answer), read-state (r .state)) ≡ step (read-state state) (now (bytes .entry)) ⌝ }
+    ensures { λ r. ⌜ StepPromise state (now (bytes .entry)) (r .answer) (r .state) ⌝ }
 {
     let mut sets = state.sets;
     let mut conflicts = state.conflicts;
