@@ -10,8 +10,9 @@ use crate::Answer;
 use crate::Decision;
 use crate::Request;
 use crate::Seat;
+use crate::searches;
+use crate::searches::refusal;
 use crate::seating;
-use crate::seating::refusal;
 use graph::Entry;
 use graph::Privilege;
 use graph::Role;
@@ -53,7 +54,7 @@ fn decide_declare<'a>(
     match verdict {
         Verdict::Refused(found) => unchanged(Answer::Refused(found)),
         Verdict::Passed => {
-            let place = seating::offered_seat(sets, seats, a, b);
+            let place = searches::offered_seat(sets, seats, a, b);
             if place < 64 {
                 return unchanged(refusal(30, place));
             }
@@ -129,7 +130,7 @@ fn decide_assign<'a>(
             if sets::member(r, own) {
                 return unchanged(refusal(22, a.0));
             }
-            let place = seating::pair_seat_after(sets, conflicts, seats, a, b);
+            let place = searches::pair_seat_after(sets, conflicts, seats, a, b);
             if place < 64 {
                 return unchanged(refusal(30, place));
             }

@@ -5,6 +5,7 @@ mod layout;
 pub mod loading;
 pub mod records;
 pub mod saving;
+mod searches;
 pub mod seating;
 pub mod stepping;
 pub mod text;

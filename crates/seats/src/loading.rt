@@ -24,7 +24,7 @@ use crate::endian::wide;
 use crate::endian::word;
 use crate::layout::ENDS;
 use crate::layout::distance;
-use crate::seating::pair_seat;
+use crate::searches::pair_seat;
 use graph::Refusal;
 use graph::refusing::empty_role;
 use graph::refusing::pair_role;

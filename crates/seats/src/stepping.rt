@@ -19,8 +19,8 @@ use crate::Stepped;
 use crate::Taken;
 use crate::deciding;
 use crate::records;
-use crate::seating;
-use crate::seating::refusal;
+use crate::searches;
+use crate::searches::refusal;
 use graph::Change;
 use graph::Refusal;
 use graph::Verdict;
@@ -36,7 +36,7 @@ fn judge_removal(seats: &[u64], edit: Change) -> Verdict
 {
     match edit {
         Change::RemoveRole(a, _) => {
-            let place = seating::holder(seats, a);
+            let place = searches::holder(seats, a);
             if place < 64 {
                 return refuse(24, place);
             }
@@ -71,7 +71,7 @@ fn judge_after<'a>(
     match verdict {
         Verdict::Refused(_) => verdict,
         Verdict::Passed => {
-            let place = seating::pair_seat(sets, conflicts, seats);
+            let place = searches::pair_seat(sets, conflicts, seats);
             if place < 64 {
                 return refuse(30, place);
             }

@@ -1,12 +1,12 @@
--- `seats::seating::joined` meets its contract: the entries of the roles visited so far are joined.
+-- `seats::searches::joined` meets its contract: the entries of the roles visited so far are joined.
 -- Assumes nothing.
 use borrow.Author.Needs.{needs}
 use mathlib.Core.Path.{ap, _∙_}
 use Rattle.sets.specs.Sets.{union}
 use Rattle.graph.specs.Tables.{at}
 use Rattle.graph.proofs.Loops.{left-lowest, left-falls, Gathering, gathering-none, gathering-next, gathering-done}
-use Rattle.seats.proofs.seating.joined.Statement.{statement}
-use Rattle.seats.proofs.seating.joined.Tie as tie
+use Rattle.seats.proofs.searches.joined.Statement.{statement}
+use Rattle.seats.proofs.searches.joined.Tie as tie
 
 abbrev Inv-loop : tie.InvT-loop
 Inv-loop sets roles found₀ rest₀ found rest = Gathering (at sets) roles rest found

@@ -1,4 +1,4 @@
--- `seats::seating::holder` meets its contract: it goes through the seats from 0 on.
+-- `seats::searches::holder` meets its contract: it goes through the seats from 0 on.
 -- Assumes nothing.
 use borrow.Author.Needs.{needs}
 use mathlib.Core.Bool.{Bool}
@@ -9,8 +9,8 @@ use Rattle.sets.specs.Sets.{member}
 use Rattle.graph.specs.Tables.{at}
 use Rattle.seats.specs.Seats.{seat-count}
 use Rattle.seats.proofs.Scanning.{Scanned, scanned-none, scanned-next, scanned-hit, scanned-miss}
-use Rattle.seats.proofs.seating.holder.Statement.{statement}
-use Rattle.seats.proofs.seating.holder.Tie as tie
+use Rattle.seats.proofs.searches.holder.Statement.{statement}
+use Rattle.seats.proofs.searches.holder.Tie as tie
 
 -- Seat i has role r.
 abbrev has : List ℕ → ℕ → ℕ → Bool

@@ -1,4 +1,4 @@
--- `seats::seating::offered_seat` meets its contract: it goes through the seats from 0 on.
+-- `seats::searches::offered_seat` meets its contract: it goes through the seats from 0 on.
 -- Assumes nothing.
 use borrow.Author.Needs.{needs}
 use mathlib.Core.Bool.{Bool}
@@ -9,8 +9,8 @@ use Rattle.graph.specs.Conflicts.{holds-both}
 use Rattle.seats.specs.Seats.{seat-count, offered-seat}
 use Rattle.seats.specs.Reading.{state-of}
 use Rattle.seats.proofs.Scanning.{Scanned, scanned-none, scanned-next, scanned-hit, scanned-miss}
-use Rattle.seats.proofs.seating.offered_seat.Statement.{statement}
-use Rattle.seats.proofs.seating.offered_seat.Tie as tie
+use Rattle.seats.proofs.searches.offered_seat.Statement.{statement}
+use Rattle.seats.proofs.searches.offered_seat.Tie as tie
 
 -- Seat i holds both a and b.
 abbrev offers : List ℕ → List ℕ → ℕ → ℕ → ℕ → Bool

@@ -1,4 +1,4 @@
--- `seats::seating::pair_seat_after` meets its contract: the role is added to the seat where the table has such an entry.
+-- `seats::searches::pair_seat_after` meets its contract: the role is added to the seat where the table has such an entry.
 -- Assumes nothing.
 use borrow.Author.Needs.{needs}
 use mathlib.Core.Path.{ap, _∙_}
@@ -13,8 +13,8 @@ use Rattle.graph.specs.Graph.{effective}
 use Rattle.graph.specs.Conflicts.{holds-pair}
 use Rattle.seats.specs.Seats.{seat-count, assigned, held, pair-seat}
 use Rattle.seats.proofs.Requests.{joint, joint-put}
-use Rattle.seats.proofs.seating.pair_seat_after.Statement.{statement}
-use Rattle.seats.proofs.seating.pair_seat_after.Tie as tie
+use Rattle.seats.proofs.searches.pair_seat_after.Statement.{statement}
+use Rattle.seats.proofs.searches.pair_seat_after.Tie as tie
 
 cast-i : tie.Need-cast-i
 cast-i c = search needs

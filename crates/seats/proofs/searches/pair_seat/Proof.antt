@@ -1,4 +1,4 @@
--- `seats::seating::pair_seat` meets its contract: it is the search with nothing added.
+-- `seats::searches::pair_seat` meets its contract: it is the search with nothing added.
 -- Assumes nothing.
 use borrow.Author.Needs.{needs}
 use mathlib.Core.Path.{ap, _∙_}
@@ -7,8 +7,8 @@ use Rattle.graph.specs.Graph.{effective}
 use Rattle.graph.specs.Conflicts.{holds-pair}
 use Rattle.seats.specs.Seats.{seat-count, assigned, held, pair-seat}
 use Rattle.seats.proofs.Requests.{joint-none}
-use Rattle.seats.proofs.seating.pair_seat.Statement.{statement}
-use Rattle.seats.proofs.seating.pair_seat.Tie as tie
+use Rattle.seats.proofs.searches.pair_seat.Statement.{statement}
+use Rattle.seats.proofs.searches.pair_seat.Tie as tie
 
 pair-seat-with-requires : tie.Need-pair-seat-with-requires
 pair-seat-with-requires c κs = tt

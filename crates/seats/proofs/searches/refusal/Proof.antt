@@ -1,10 +1,10 @@
--- `seats::seating::refusal` meets its contract: the answer is the refusal.
+-- `seats::searches::refusal` meets its contract: the answer is the refusal.
 -- Assumes nothing.
 use borrow.Author.Needs.{needs}
 use mathlib.Core.Path.{refl}
 use Rattle.seats.specs.Reading.{read-answer}
-use Rattle.seats.proofs.seating.refusal.Statement.{statement}
-use Rattle.seats.proofs.seating.refusal.Tie as tie
+use Rattle.seats.proofs.searches.refusal.Statement.{statement}
+use Rattle.seats.proofs.searches.refusal.Tie as tie
 
 returns : tie.Need-returns
 unfolding read-answer

@@ -1,4 +1,4 @@
--- `seats::seating::pair_seat_with` meets its contract: it goes through the seats from 0 on.
+-- `seats::searches::pair_seat_with` meets its contract: it goes through the seats from 0 on.
 -- Assumes nothing.
 use borrow.Author.Needs.{needs}
 use mathlib.Core.Bool.{Bool}
@@ -12,8 +12,8 @@ use Rattle.graph.specs.Graph.{role-count}
 use Rattle.graph.specs.Conflicts.{holds-pair}
 use Rattle.seats.specs.Seats.{seat-count}
 use Rattle.seats.proofs.Scanning.{Scanned, scanned-none, scanned-next, scanned-hit, scanned-miss}
-use Rattle.seats.proofs.seating.pair_seat_with.Statement.{statement}
-use Rattle.seats.proofs.seating.pair_seat_with.Tie as tie
+use Rattle.seats.proofs.searches.pair_seat_with.Statement.{statement}
+use Rattle.seats.proofs.searches.pair_seat_with.Tie as tie
 
 -- What these roles hold.
 abbrev joint : List ℕ → ℕ → ℕ
