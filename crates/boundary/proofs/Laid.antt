@@ -1,0 +1,127 @@
+-- A block as the words of its state and the words behind them: what writing tables and storing entries leaves.
+-- Assumes nothing.
+use mathlib.Core.Path.{_≡_, refl, sym, ap, _∙_}
+use mathlib.Core.Bool.{true, false, cond}
+use mathlib.Core.Logic.{inl, inr}
+use mathlib.Core.List.{List, [], _∷_, _++_, append-assoc}
+use Prim.Native.Nat.{ℕ, suc, _+_, _<_, _≤_}
+use native.Mathlib.Nat.{zero-add, suc-add}
+use native.Mathlib.Omega.{arith}
+use borrow.Author.Tests.{ltb-true}
+use lib.ListN.{length, getD, drop, set, length-append, length-drop, length-set, take-append-drop}
+use lib.Seq.{length-take-le, drop-cons, drop-drop, take-at, drop-at, set-split, set-append-left}
+use lib.Dec.{ltb}
+use Rattle.sets.proofs.Tests.{passes, fails, decide}
+use Rattle.graph.specs.Tables.{stored}
+use Rattle.seats.specs.Seats.{State}
+use Rattle.seats.specs.Reading.{state-of}
+use Rattle.boundary.specs.Block.{table-at, state-in, words-of, holding}
+use Rattle.boundary.specs.Working.{Wrote, stored-at}
+
+-- ---- tables written
+
+-- A table written leaves the block's length.
+pub wrote-length : (W : List ℕ) (i : ℕ) {t X : List ℕ} → i + 64 ≤ length W → Wrote W i t X → length X ≡ length W
+wrote-length W i {t} l w =
+    let a = length-take-le i W (omega arith) in
+    let b = w .whole in
+    ap length (w .words) ∙ simp (length-append, length-drop) (omega arith)
+
+-- A front, and a table written behind it.
+put-next : (F W : List ℕ) (n : ℕ) {t u X : List ℕ} → length F ≡ n → u ≡ F ++ drop n W → Wrote u n t X → X ≡ (F ++ t) ++ drop (n + 64) W
+put-next F W n l e w =
+    let d : drop (n + 64) (F ++ drop n W) ≡ drop (n + 64) W = sym (drop-drop 64 n (F ++ drop n W)) ∙ ap (λ (k : List ℕ). drop 64 k) (drop-at F (drop n W) n l) ∙ drop-drop 64 n W in
+    w .words ∙ rw (e, take-at F (drop n W) n l, d)
+
+length-next : (F t : List ℕ) (n : ℕ) → length F ≡ n → length t ≡ 64 → length (F ++ t) ≡ n + 64
+length-next F t n l k = length-append F t ∙ rw (l, k)
+
+-- The roles and the sets written.
+roles-put : (r : ℕ) (W : List ℕ) {A X : List ℕ} → 0 < length W → Wrote (set W 0 r) 1 A X → X ≡ (r ∷ A) ++ drop 65 W
+roles-put r W l w = put-next (r ∷ []) W 1 refl (set-split W 0 r l) w
+
+-- A state written.
+pub state-put : (s : State) (W : List ℕ) {X Y Z : List ℕ} → 0 < length W → Wrote (set W 0 (s .graph .roles)) 1 (s .graph .sets) X → Wrote X 65 (s .graph .conflicts) Y → Wrote Y 129 (s .seats) Z → Z ≡ holding s W
+unfolding holding words-of
+state-put s W l w x y =
+    let F = s .graph .roles ∷ s .graph .sets in
+    let a = length-next (s .graph .roles ∷ []) (s .graph .sets) 1 refl (w .whole) in
+    let b = put-next F W 65 a (roles-put (s .graph .roles) W l w) x in
+    let c = put-next (F ++ s .graph .conflicts) W 129 (length-next F (s .graph .conflicts) 65 a (x .whole)) b y in
+    c ∙ ap (λ (k : List ℕ). (s .graph .roles ∷ k) ++ drop 193 W) (append-assoc (s .graph .sets) (s .graph .conflicts) (s .seats))
+
+-- ---- the words as tables
+
+pub regroup : (a b c d : List ℕ) → (a ++ (b ++ c)) ++ d ≡ a ++ (b ++ (c ++ d))
+regroup a b c d = simp append-assoc
+
+-- A table has its 64 entries.
+pub table-whole : (W : List ℕ) (i : ℕ) → i + 64 ≤ length W → length (table-at W i) ≡ 64
+table-whole W i l = length-take-le 64 (drop i W) (simp length-drop (omega arith))
+
+-- A table and the words behind it.
+next-table : (W : List ℕ) (i : ℕ) → drop i W ≡ table-at W i ++ drop (i + 64) W
+next-table W i = sym (take-append-drop 64 (drop i W)) ∙ ap (λ (k : List ℕ). table-at W i ++ k) (drop-drop 64 i W)
+
+-- The last two tables and the words behind them.
+last-tables : (W : List ℕ) → drop 65 W ≡ table-at W 65 ++ (table-at W 129 ++ drop 193 W)
+last-tables W = next-table W 65 ∙ ap (λ (k : List ℕ). table-at W 65 ++ k) (next-table W 129)
+
+-- Roles and sets written before tables that stay.
+pub graph-put : (s : State) (W : List ℕ) {X : List ℕ} → 0 < length W → s .graph .conflicts ≡ table-at W 65 → s .seats ≡ table-at W 129 → Wrote (set W 0 (s .graph .roles)) 1 (s .graph .sets) X → X ≡ holding s W
+unfolding holding words-of
+graph-put s W l p q w =
+    roles-put (s .graph .roles) W l w
+    ∙ rw (last-tables W, p, q) (ap (λ (k : List ℕ). s .graph .roles ∷ k) (sym (regroup (s .graph .sets) (table-at W 65) (table-at W 129) (drop 193 W))))
+
+-- The front of a block up to its conflicts, and the rest.
+front : List ℕ → List ℕ
+front W = getD W 0 0 ∷ table-at W 1
+
+laid : (W : List ℕ) → 0 < length W → W ≡ front W ++ (table-at W 65 ++ (table-at W 129 ++ drop 193 W))
+unfolding front
+laid W l = drop-cons W 0 0 l ∙ ap (λ (k : List ℕ). getD W 0 0 ∷ k) (next-table W 1 ∙ ap (λ (k : List ℕ). table-at W 1 ++ k) (last-tables W))
+
+-- A block holds its own state.
+pub holds-own : (W : List ℕ) → 0 < length W → holding (state-in W) W ≡ W
+unfolding holding words-of front
+holds-own W l = simp append-assoc (sym (laid W l))
+
+-- ---- an entry stored
+
+length-stored : (T : List ℕ) (n x : ℕ) → length (stored T n x) ≡ length T
+unfolding stored
+length-stored T n x = elim (ltb n 64) as (λ t. length (cond t (set T n x) T) ≡ length T) [
+  | true ↦ length-set T n x
+  | false ↦ refl
+]
+
+set-behind : (P X : List ℕ) (n a : ℕ) → set (P ++ X) (length P + n) a ≡ P ++ set X n a
+set-behind [] X n a = ap (λ (k : ℕ). set X k a) (zero-add n)
+set-behind (p ∷ P) X n a = ap (λ (k : ℕ). set (p ∷ (P ++ X)) k a) (suc-add (length P) n) ∙ ap (λ (k : List ℕ). p ∷ k) (set-behind P X n a)
+
+-- An entry of a table stored in the block is the table's entry stored.
+stored-in : (P T Q : List ℕ) (i n x : ℕ) → length P ≡ i → length T ≡ 64 → stored-at (P ++ (T ++ Q)) i n x ≡ P ++ (stored T n x ++ Q)
+unfolding stored stored-at
+stored-in P T Q i n x l k = elim (decide (ltb n 64)) [
+  | inl t ↦ let h : n < length T = omega (arith, ltb-true n 64 (passes (ltb n 64) t)) in
+      rw (passes (ltb n 64) t, ← l, set-behind P (T ++ Q) n x, set-append-left T Q n x h)
+  | inr f ↦ rw (fails (ltb n 64) f)
+]
+
+-- An entry of the conflicts and one of the seats stored.
+pub entries-stored : (W : List ℕ) (n x m y : ℕ) → 193 ≤ length W
+    → stored-at (stored-at W 65 n x) 129 m y ≡ holding (state-of (getD W 0 0) (table-at W 1) (stored (table-at W 65) n x) (stored (table-at W 129) m y)) W
+unfolding holding words-of front
+entries-stored W n x m y l =
+    let C = table-at W 65 in
+    let S = table-at W 129 in
+    let D = drop 193 W in
+    let a : length (front W) ≡ 65 = ap suc (table-whole W 1 (omega arith)) in
+    let p = stored-in (front W) C (S ++ D) 65 n x a (table-whole W 65 (omega arith)) in
+    let b : length (front W ++ stored C n x) ≡ 129 = length-append (front W) (stored C n x) ∙ rw (a, length-stored C n x, table-whole W 65 (omega arith)) in
+    let q = stored-in (front W ++ stored C n x) S D 129 m y b (table-whole W 129 (omega arith)) in
+    ap (λ (k : List ℕ). stored-at (stored-at k 65 n x) 129 m y) (laid W (omega arith))
+    ∙ ap (λ (k : List ℕ). stored-at k 129 m y) (p ∙ sym (append-assoc (front W) (stored C n x) (S ++ D)))
+    ∙ q
+    ∙ simp append-assoc

@@ -1,0 +1,92 @@
+-- `boundary::calls::keeper_call` meets its contract, by what the record decodes to.
+-- Assumes nothing.
+use mathlib.Core.Path.{_≡_, sym, ap, _∙_}
+use native.Mathlib.Omega.{arith}
+use borrow.Author.Needs.{needs}
+use borrow.Author.Tests.{lt-leb, le-leb}
+use Rattle.seats.specs.Calls.{refused}
+use Rattle.seats.specs.Records.{Decoded, malformed, well-formed, decode, perform-decoded, step}
+use Rattle.seats.specs.Reading.{read-call, read-decoded}
+use Rattle.seats.specs.declared.Call.{Call}
+use Rattle.boundary.specs.Block.{state-in, of-state}
+use Rattle.boundary.specs.Keeper.{given, call-block}
+use Rattle.boundary.proofs.Laid.{holds-own}
+use Rattle.boundary.proofs.Taken.{gives}
+use Rattle.boundary.proofs.calls.keeper_call.Statement.{statement}
+use Rattle.boundary.proofs.calls.keeper_call.Tie as tie
+
+returns : tie.Need-returns
+unfolding call-block of-state
+returns c = simp (lt-leb _ _ (c .if1 .taken))
+
+decode-requires : tie.Need-decode-requires
+decode-requires c κs = search needs
+
+enum-known-decoded : tie.Need-enum-known-decoded
+enum-known-decoded c = search needs
+
+enum-told : tie.Need-enum-told
+enum-told c = search needs
+
+refusal-code-requires : tie.Need-refusal-code-requires
+refusal-code-requires c κs = search needs
+
+returns-2 : tie.Need-returns-2
+unfolding call-block of-state step perform-decoded read-decoded
+returns-2 c =
+    let s = c .before .before .before .before .before .before .before in
+    let W = s .args .block .now in
+    let d : malformed ≡ decode (s .args .bytes .now) = sym (ap read-decoded (c .before .enum-told .given .1)) ∙ c .before .before .before .decode .ensures in
+    rw (le-leb _ _ (c .before .before .before .before .if1 .left))
+    (gives W (refused 1 0) (state-in W) (c .refusal-code .ensures .0) (sym (holds-own W (omega (arith, c .before .before .before .before .if1 .left)))) (ap (perform-decoded (state-in W)) d))
+
+enum-told-2 : tie.Need-enum-told-2
+enum-told-2 c = search needs
+
+take-change-requires : tie.Need-take-change-requires
+take-change-requires c κs = search needs
+
+enum-known-call : tie.Need-enum-known-call
+enum-known-call c = search needs
+
+take-request-requires : tie.Need-take-request-requires
+take-request-requires c κs = search needs
+
+same-length : tie.Need-same-length
+same-length c = search needs
+
+returns-3 : tie.Need-returns-3
+unfolding call-block of-state read-decoded read-call
+returns-3 c =
+    let d = sym (c .before .before .before .before .before .before .before .before .before .decode .ensures) ∙ ap read-decoded (c .before .before .before .before .before .before .before .decoded .given .1) ∙ ap (λ (k : Call). well-formed (read-call k)) (c .before .before .before .before .enum-told2 .given .1) in
+    rw (le-leb _ _ (c .before .before .before .before .before .before .before .before .before .before .if1 .left)) (c .before .before .take-change .ensures _ d)
+
+same-length-2 : tie.Need-same-length-2
+same-length-2 c = search needs
+
+returns-4 : tie.Need-returns-4
+unfolding call-block of-state step perform-decoded read-decoded read-call
+returns-4 c =
+    let s = c .before .before .before .before .before .before .before .before .before .before .before .before .before .before in
+    let W = s .args .block .now in
+    let d = sym (c .before .before .before .before .before .before .before .before .before .before .decode .ensures) ∙ ap read-decoded (c .before .before .before .before .before .before .before .before .decoded .given .1) ∙ ap (λ (k : Call). well-formed (read-call k)) (c .before .before .before .before .before .call .given .1) in
+    rw (le-leb _ _ (c .before .before .before .before .before .before .before .before .before .before .before .if1 .left)) (c .before .before .take-request .ensures ∙ ap (λ (k : Decoded). given W (perform-decoded (state-in W) k)) (sym d))
+
+pub keeper-call-spec : {M : Type 1} → statement M
+keeper-call-spec =
+    tie.close
+    (tie.spec
+    returns
+    decode-requires
+    enum-known-decoded
+    enum-told
+    refusal-code-requires
+    returns-2
+    enum-told-2
+    take-change-requires
+    enum-known-call
+    take-request-requires
+    same-length
+    returns-3
+    same-length-2
+    returns-4)

@@ -1,0 +1,80 @@
+-- `boundary::images::keeper_save` meets its contract, by whether the image was written.
+-- Assumes nothing.
+use mathlib.Core.Path.{sym, ap, _∙_}
+use Prim.Native.Nat.{ℕ, _+_}
+use native.Mathlib.Omega.{arith}
+use borrow.Author.Needs.{needs}
+use borrow.Author.Tests.{lt-leb, le-leb}
+use Rattle.seats.specs.Reading.{read-state, read-filled}
+use Rattle.seats.specs.declared.Filled.{Filled}
+use Rattle.boundary.specs.Block.{state-in, of-state, save-code}
+use Rattle.boundary.specs.Keeper.{save-block}
+use Rattle.boundary.proofs.Saved.{written-le, saves}
+use Rattle.boundary.proofs.images.keeper_save.Statement.{statement}
+use Rattle.boundary.proofs.images.keeper_save.Tie as tie
+
+returns : tie.Need-returns
+unfolding save-block of-state
+returns c = simp (lt-leb _ _ (c .if1 .taken))
+
+state-in-requires : tie.Need-state-in-requires
+state-in-requires c κs = search needs
+
+save-requires : tie.Need-save-requires
+save-requires c κs = search needs
+
+enum-known-filled : tie.Need-enum-known-filled
+enum-known-filled c = search needs
+
+cast-result : tie.Need-cast-result
+unfolding read-filled
+cast-result c =
+    let l = written-le (read-state (c .before .before .before .before .before .before .before .before .before .before .before .state-in .result)) (c .before .before .before .before .before .before .before .before .before .before .before .before .before .before .before .args .buffer .now) (c .before .filled .given .0 .0) (ap read-filled (c .before .filled .given .1)) (c .before .before .before .before .before .save .ensures) in
+    record { fits = omega arith }
+
+enum-known-filled-2 : tie.Need-enum-known-filled-2
+enum-known-filled-2 c = search needs
+
+refusal-code-requires : tie.Need-refusal-code-requires
+refusal-code-requires c κs = search needs
+
+add-result : tie.Need-add-result
+add-result c = search needs
+
+same-length : tie.Need-same-length
+same-length c = search needs
+
+returns-2 : tie.Need-returns-2
+unfolding save-block of-state save-code read-filled
+returns-2 c =
+    let s = c .before .before .before .before .before .before .before .before .before .before .before .before .before .before .before in
+    rw (le-leb _ _ (c .before .before .before .before .before .before .before .before .before .before .before .before .if1 .left))
+    (saves (state-in (s .args .block .now)) (s .args .buffer .now) (sym (ap (λ (k : Filled). save-code (read-filled k)) (c .before .filled .given .1))) (c .before .before .before .before .before .before .before .before .before .before .before .state-in .ensures) (c .before .before .before .before .before .save .ensures))
+
+same-length-2 : tie.Need-same-length-2
+same-length-2 c = search needs
+
+returns-3 : tie.Need-returns-3
+unfolding save-block of-state save-code read-filled
+returns-3 c =
+    let s = c .before .before .before .before .before .before .before .before .before .before .before .before .before .before .before .before in
+    let v = ap (λ (k : ℕ). 65536 + k) (c .refusal-code .ensures .0) ∙ sym (ap (λ (k : Filled). save-code (read-filled k)) (c .before .before .filled2 .given .1)) in
+    rw (le-leb _ _ (c .before .before .before .before .before .before .before .before .before .before .before .before .before .if1 .left))
+    (saves (state-in (s .args .block .now)) (s .args .buffer .now) v (c .before .before .before .before .before .before .before .before .before .before .before .before .state-in .ensures) (c .before .before .before .before .before .before .save .ensures))
+
+pub keeper-save-spec : {M : Type 1} → statement M
+keeper-save-spec =
+    tie.close
+    (tie.spec
+    returns
+    state-in-requires
+    save-requires
+    enum-known-filled
+    cast-result
+    enum-known-filled-2
+    refusal-code-requires
+    add-result
+    same-length
+    returns-2
+    same-length-2
+    returns-3)

@@ -1,0 +1,52 @@
+-- A lent block of words: the state that its first words hold, and the numbers that stand for answers.
+use mathlib.Core.Bool.{cond}
+use mathlib.Core.List.{List, _∷_, _++_}
+use Prim.Native.Nat.{ℕ, _+_, _*_}
+use lib.ListN.{length, getD, take, drop}
+use lib.Dec.{leb}
+use Rattle.seats.specs.Bytes.{Filled, written, too-short}
+use Rattle.seats.specs.Seats.{State}
+use Rattle.seats.specs.Calls.{Answer, refused}
+use Rattle.seats.specs.Tape.{answer-number, answer-place}
+use Rattle.seats.specs.Reading.{state-of}
+
+-- How many entries a table has, one for each role, privilege or seat.
+abbrev pub table-length : ℕ
+table-length = 64
+
+-- How many words a state takes: the ordinary roles, then the tables of effective sets, conflicts and seats.
+abbrev pub block-length : ℕ
+block-length = 193
+
+-- The table that starts at word i.
+abbrev pub table-at : List ℕ → ℕ → List ℕ
+table-at W i = take table-length (drop i W)
+
+-- The state that a block's first words hold.
+abbrev pub state-in : List ℕ → State
+state-in W = state-of (getD W 0 0) (table-at W 1) (table-at W 65) (table-at W 129)
+
+-- The words of a state.
+unfoldable pub words-of : State → List ℕ
+words-of s = s .graph .roles ∷ (s .graph .sets ++ (s .graph .conflicts ++ s .seats))
+
+-- The block with a state in the place of the one that it held; the words behind it stay.
+unfoldable pub holding : State → List ℕ → List ℕ
+holding s W = words-of s ++ drop block-length W
+
+-- What f makes of the block's state, or other where the block has too few words for one.
+unfoldable pub of-state : {A : Type 0} → List ℕ → (State → A) → A → A
+of-state W f other = cond (leb block-length (length W)) (f (state-in W)) other
+
+-- An answer as one number: 256 times the number that the tape prints, and the place.
+unfoldable pub code-of : Answer → ℕ
+code-of a = 256 * answer-number a + answer-place a
+
+-- The code of a block with too few words; no refusal has the number 255, and no image this length.
+abbrev pub no-state : ℕ
+no-state = 65535
+
+-- What a save answers as one number: the length written, or 65536 and the refusal's code.
+unfoldable pub save-code : Filled → ℕ
+save-code (written n) = n
+save-code (too-short n p) = 65536 + code-of (refused n p)

@@ -1,0 +1,76 @@
+// The words of a block: tables and states copied out of it, and written back.
+ghost use mathlib.Core.Path.{_≡_};
+ghost use Prim.Native.Nat.{_+_, _≤_};
+ghost use lib.ListN.{length};
+ghost use Rattle.seats.specs.Reading.{read-state};
+ghost use Rattle.boundary.specs.Block.{block-length, table-at, state-in, holding};
+ghost use Rattle.boundary.specs.Working.{Wrote, stored-at};
+use graph::Entry;
+use seats::State;
+
+// How many words a state takes.
+pub const WORDS: usize = 193;
+
+// The table that starts at a word.
+pub fn table_at(block: &[u64], at: usize) -> [u64; 64]
+    requires { ⌜ at + 64 ≤ length (now block) ⌝ }
+    ensures { λ r. ⌜ r ≡ table-at (now (block .entry)) at ⌝ }
+{
+    let mut table = [0u64; 64];
+    for i in 0..64usize {
+        table[i] = block[at + i];
+    }
+    table
+}
+
+// The state that the first words hold.
+pub fn state_in(block: &[u64]) -> State
+    requires { ⌜ block-length ≤ length (now block) ⌝ }
+    ensures { λ r. ⌜ read-state r ≡ state-in (now (block .entry)) ⌝ }
+{
+    let sets = table_at(block, 1);
+    let conflicts = table_at(block, 65);
+    let seats = table_at(block, 129);
+    State {
+        roles: block[0],
+        sets,
+        conflicts,
+        seats,
+    }
+}
+
+// Writes a table, from a word on.
+pub fn put_table(block: &mut [u64], at: usize, table: &[u64; 64])
+    requires { ⌜ at + 64 ≤ length (now block) ⌝ }
+    ensures { λ _. ⌜ Wrote (now (block .entry)) at (now (table .entry)) (now (block .exit)) ⌝ }
+{
+    let words = &table[..];
+    for i in 0..64usize {
+        block[at + i] = words[i];
+    }
+}
+
+// Writes a state in the place of the one that the first words hold.
+pub fn put_state(block: &mut [u64], state: State)
+    requires { ⌜ block-length ≤ length (now block) ⌝ }
+    ensures { λ _. ⌜ now (block .exit) ≡ holding (read-state state) (now (block .entry)) ⌝ }
+{
+    let sets = state.sets;
+    let conflicts = state.conflicts;
+    let seats = state.seats;
+    block[0] = state.roles;
+    put_table(block, 1, &sets);
+    put_table(block, 65, &conflicts);
+    put_table(block, 129, &seats);
+}
+
+// Stores an entry, if there is one, in the table that starts at a word.
+pub fn store_at(block: &mut [u64], at: usize, entry: Entry)
+    requires { ⌜ at + 64 ≤ length (now block) ⌝ }
+    ensures { λ _. ⌜ now (block .exit) ≡ stored-at (now (block .entry)) at (entry .number) (entry .set) ⌝ }
+{
+    let n = entry.number;
+    if n < 64 {
+        block[at + n] = entry.set;
+    }
+}

@@ -1,0 +1,28 @@
+// Answers as one number each.
+ghost use mathlib.Core.Path.{_≡_};
+ghost use Prim.Native.Nat.{_<_};
+ghost use Rattle.seats.specs.Calls.{refused};
+ghost use Rattle.seats.specs.Reading.{read-answer};
+ghost use Rattle.boundary.specs.Block.{code-of};
+use seats::Answer;
+
+// The code of a block with too few words.
+pub const NO_STATE: u32 = 65535;
+
+// The code of a refusal.
+pub fn refusal_code(number: u8, place: u8) -> u32
+    ensures { λ r. ⌜ (r ≡ code-of (refused number place)) × (r < 65536) ⌝ }
+{
+    256 * (number as u32) + (place as u32)
+}
+
+// The code of an answer.
+pub fn code(answer: Answer) -> u32
+    ensures { λ r. ⌜ r ≡ code-of (read-answer answer) ⌝ }
+{
+    match answer {
+        Answer::Accepted => 0,
+        Answer::Answered(held) => if held { 1 } else { 0 },
+        Answer::Refused(refusal) => refusal_code(refusal.number, refusal.place),
+    }
+}

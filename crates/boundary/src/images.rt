@@ -1,0 +1,49 @@
+// The exported functions that save an image into a lent buffer, and load one.
+ghost use mathlib.Core.Path.{_≡_};
+ghost use Rattle.boundary.specs.Keeper.{save-block, load-block};
+use crate::block::WORDS;
+use crate::block::put_state;
+use crate::block::state_in;
+use crate::codes::NO_STATE;
+use crate::codes::code;
+use crate::codes::refusal_code;
+use seats::Filled;
+use seats::loading;
+use seats::saving;
+
+// Saves the block's state into the buffer: the length written, or 65536 and the refusal's code.
+#[no_mangle]
+pub extern "C" fn keeper_save(block: &[u64], buffer: &mut [u8]) -> u32
+    ensures { λ r. ⌜ (r, now (buffer .exit)) ≡ save-block (now (block .entry)) (now (buffer .entry)) ⌝ }
+{
+    if block.len() < WORDS {
+        return NO_STATE;
+    }
+    let state = state_in(block);
+    let filled = saving::save(
+        state.roles,
+        &state.sets,
+        &state.conflicts,
+        &state.seats,
+        buffer,
+    );
+    match filled {
+        Filled::Written(n) => n as u32,
+        Filled::TooShort(refusal) => 65536 + refusal_code(refusal.number, refusal.place),
+    }
+}
+
+// Loads the image that ends the bytes into the block.
+#[no_mangle]
+pub extern "C" fn keeper_load(block: &mut [u64], bytes: &[u8]) -> u32
+    ensures { λ r. ⌜ (r, now (block .exit)) ≡ load-block (now (block .entry)) (now (bytes .entry)) ⌝ }
+{
+    if block.len() < WORDS {
+        return NO_STATE;
+    }
+    let loaded = loading::load(state_in(block), bytes);
+    let answer = loaded.answer;
+    let next = loaded.state;
+    put_state(block, next);
+    code(answer)
+}

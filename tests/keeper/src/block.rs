@@ -1,0 +1,86 @@
+//! The static library's functions, on slices of any length.
+//!
+//! A slice goes over as its pointer and its length. The library reads and
+//! writes inside it alone, keeps no pointer, and returns; that is proved of
+//! the Rattle code, and the declarations below are what is trusted here.
+
+extern "C" {
+    fn keeper_fresh(block: *mut u64, words: usize) -> u32;
+    fn keeper_call(block: *mut u64, words: usize, bytes: *const u8, length: usize) -> u32;
+    fn keeper_save(block: *const u64, words: usize, buffer: *mut u8, length: usize) -> u32;
+    fn keeper_load(block: *mut u64, words: usize, bytes: *const u8, length: usize) -> u32;
+    fn keeper_ask(block: *const u64, words: usize, seat: u8, privilege: u8) -> u32;
+    fn keeper_edge_count(block: *const u64, words: usize) -> u32;
+    fn keeper_effective(block: *const u64, words: usize, role: u8) -> u64;
+    fn keeper_direct(block: *const u64, words: usize, role: u8) -> u64;
+    fn keeper_juniors(block: *const u64, words: usize, role: u8) -> u64;
+    fn keeper_seniors(block: *const u64, words: usize, role: u8) -> u64;
+    fn keeper_is_below(block: *const u64, words: usize, junior: u8, senior: u8) -> bool;
+    fn keeper_is_declared(block: *const u64, words: usize, first: u8, second: u8) -> bool;
+    fn keeper_seat_roles(block: *const u64, words: usize, seat: u8) -> u64;
+    fn keeper_seat_holds(block: *const u64, words: usize, seat: u8) -> u64;
+}
+
+pub fn fresh(block: &mut [u64]) -> u32 {
+    // SAFETY: the slice is valid for its length, and exclusive.
+    unsafe { keeper_fresh(block.as_mut_ptr(), block.len()) }
+}
+
+pub fn call(block: &mut [u64], bytes: &[u8]) -> u32 {
+    let (at, words) = (block.as_mut_ptr(), block.len());
+    // SAFETY: both slices are valid for their lengths, and the block is exclusive.
+    unsafe { keeper_call(at, words, bytes.as_ptr(), bytes.len()) }
+}
+
+pub fn save(block: &[u64], buffer: &mut [u8]) -> u32 {
+    let (at, words) = (block.as_ptr(), block.len());
+    // SAFETY: both slices are valid for their lengths, and the buffer is exclusive.
+    unsafe { keeper_save(at, words, buffer.as_mut_ptr(), buffer.len()) }
+}
+
+pub fn load(block: &mut [u64], bytes: &[u8]) -> u32 {
+    let (at, words) = (block.as_mut_ptr(), block.len());
+    // SAFETY: both slices are valid for their lengths, and the block is exclusive.
+    unsafe { keeper_load(at, words, bytes.as_ptr(), bytes.len()) }
+}
+
+pub fn ask(block: &[u64], seat: u8, privilege: u8) -> u32 {
+    // SAFETY: the slice is valid for its length, here and in each reading below.
+    unsafe { keeper_ask(block.as_ptr(), block.len(), seat, privilege) }
+}
+
+pub fn edge_count(block: &[u64]) -> u32 {
+    unsafe { keeper_edge_count(block.as_ptr(), block.len()) }
+}
+
+pub fn effective(block: &[u64], role: u8) -> u64 {
+    unsafe { keeper_effective(block.as_ptr(), block.len(), role) }
+}
+
+pub fn direct(block: &[u64], role: u8) -> u64 {
+    unsafe { keeper_direct(block.as_ptr(), block.len(), role) }
+}
+
+pub fn juniors(block: &[u64], role: u8) -> u64 {
+    unsafe { keeper_juniors(block.as_ptr(), block.len(), role) }
+}
+
+pub fn seniors(block: &[u64], role: u8) -> u64 {
+    unsafe { keeper_seniors(block.as_ptr(), block.len(), role) }
+}
+
+pub fn is_below(block: &[u64], junior: u8, senior: u8) -> bool {
+    unsafe { keeper_is_below(block.as_ptr(), block.len(), junior, senior) }
+}
+
+pub fn is_declared(block: &[u64], first: u8, second: u8) -> bool {
+    unsafe { keeper_is_declared(block.as_ptr(), block.len(), first, second) }
+}
+
+pub fn seat_roles(block: &[u64], seat: u8) -> u64 {
+    unsafe { keeper_seat_roles(block.as_ptr(), block.len(), seat) }
+}
+
+pub fn seat_holds(block: &[u64], seat: u8) -> u64 {
+    unsafe { keeper_seat_holds(block.as_ptr(), block.len(), seat) }
+}

@@ -1,0 +1,147 @@
+//! The C header, the wrapper's declarations and the Rattle source declare the same functions.
+
+use std::collections::BTreeMap;
+use std::fs;
+use std::path::Path;
+
+/// The parameters' names and types and the result's type, in Rust's spelling.
+type Signature = (Vec<(String, String)>, String);
+type Functions = BTreeMap<String, Signature>;
+
+fn text(path: &str) -> String {
+    let path = Path::new(env!("CARGO_MANIFEST_DIR")).join(path);
+    fs::read_to_string(&path).unwrap_or_else(|error| panic!("{}: {error}", path.display()))
+}
+
+fn pair(name: &str, of: &str) -> (String, String) {
+    (name.to_string(), of.to_string())
+}
+
+/// The text between a function's parentheses, split at the commas.
+fn parameters(text: &str) -> Vec<&str> {
+    let parts = text.split(',').map(str::trim);
+    parts.filter(|part| !part.is_empty()).collect()
+}
+
+// ---- the header ----
+
+fn of_c(name: &str) -> &str {
+    match name {
+        "uint8_t" => "u8",
+        "uint32_t" => "u32",
+        "uint64_t" => "u64",
+        "size_t" => "usize",
+        "bool" => "bool",
+        other => panic!("the header has a type {other}"),
+    }
+}
+
+fn header_parameter(text: &str) -> (String, String) {
+    let (of, name) = text.rsplit_once(' ').expect("a type and a name");
+    match (name.strip_prefix('*'), of.strip_prefix("const ")) {
+        (None, None) => pair(name, of_c(of)),
+        (Some(name), None) => pair(name, &format!("*mut {}", of_c(of))),
+        (Some(name), Some(of)) => pair(name, &format!("*const {}", of_c(of))),
+        (None, Some(_)) => panic!("a constant parameter: {text}"),
+    }
+}
+
+fn header() -> Functions {
+    let text = text("../../include/keeper.h");
+    let lines = text.lines().filter(|line| line.ends_with(");"));
+    let function = |line: &str| {
+        let (start, rest) = line.split_once('(').expect("a parenthesis");
+        let (result, name) = start.rsplit_once(' ').expect("a result and a name");
+        let list = parameters(rest.trim_end_matches(");"));
+        let list = list.into_iter().map(header_parameter).collect();
+        (name.to_string(), (list, of_c(result).to_string()))
+    };
+    lines.map(function).collect()
+}
+
+// ---- the wrapper ----
+
+fn wrapper() -> Functions {
+    let text = text("src/block.rs");
+    let (_, block) = text.split_once("extern \"C\" {").expect("a block");
+    let (block, _) = block.split_once("\n}").expect("the block's end");
+    let function = |part: &str| {
+        let (name, rest) = part.split_once('(').expect("a parenthesis");
+        let (list, result) = rest.split_once(") -> ").expect("a result");
+        let split = |part: &str| {
+            let (name, of) = part.split_once(": ").expect("a name and a type");
+            pair(name, of)
+        };
+        let list = parameters(list).into_iter().map(split).collect();
+        (name.to_string(), (list, result.to_string()))
+    };
+    let parts = block
+        .split(';')
+        .filter_map(|part| part.trim().strip_prefix("fn "));
+    parts.map(function).collect()
+}
+
+// ---- the Rattle source ----
+
+/// A Rattle parameter as C has it: a slice is a pointer and a length.
+fn lowered(text: &str) -> Vec<(String, String)> {
+    let (name, of) = text.split_once(": ").expect("a name and a type");
+    let length = if name == "block" { "words" } else { "length" };
+    let slice = |pointer: &str, of: &str| {
+        let element = of.trim_end_matches(']');
+        vec![
+            pair(name, &format!("{pointer} {element}")),
+            pair(length, "usize"),
+        ]
+    };
+    match (of.strip_prefix("&mut ["), of.strip_prefix("&[")) {
+        (Some(of), _) => slice("*mut", of),
+        (_, Some(of)) => slice("*const", of),
+        _ => vec![pair(name, of)],
+    }
+}
+
+fn source() -> Functions {
+    let files = ["calls", "images", "reading"];
+    let text = files
+        .map(|file| text(&format!("../../crates/boundary/src/{file}.rt")))
+        .concat();
+    let function = |part: &str| {
+        let (name, rest) = part.split_once('(').expect("a parenthesis");
+        let (list, rest) = rest.split_once(") -> ").expect("a result");
+        let list = parameters(list).into_iter().flat_map(lowered).collect();
+        let result = rest.split_whitespace().next().expect("a result");
+        (name.to_string(), (list, result.to_string()))
+    };
+    let parts = text.split("pub extern \"C\" fn ").skip(1);
+    parts.map(function).collect()
+}
+
+// ---- the tests ----
+
+#[test]
+fn the_header_declares_what_the_wrapper_does() {
+    assert_eq!(header(), wrapper());
+}
+
+#[test]
+fn the_header_declares_what_the_source_exports() {
+    let (header, source) = (header(), source());
+    assert_eq!(header.len(), 14);
+    assert_eq!(header, source);
+}
+
+#[test]
+fn the_header_has_the_wrappers_constants() {
+    let text = text("../../include/keeper.h");
+    let constants = [
+        ("KEEPER_WORDS", keeper::WORDS as u64),
+        ("KEEPER_LONGEST_IMAGE", keeper::LONGEST_IMAGE as u64),
+        ("KEEPER_NO_STATE", keeper::NO_STATE.into()),
+        ("KEEPER_NOT_SAVED", keeper::NOT_SAVED.into()),
+    ];
+    for (name, value) in constants {
+        let line = format!("#define {name} {value}");
+        assert!(text.lines().any(|found| found == line), "{line}");
+    }
+}
