@@ -1,0 +1,36 @@
+//! The proved keeper as a value: a block of words, and the boundary's functions on it.
+
+use crate::boundary::{keeper_ask, keeper_call, keeper_fresh, keeper_load, keeper_save, WORDS};
+use crate::side::Side;
+
+#[derive(Clone)]
+pub struct Kept([u64; WORDS]);
+
+// Each call lends the block, and bytes that live as long as the call, with their lengths.
+impl Side for Kept {
+    fn fresh() -> Kept {
+        let mut block = [0; WORDS];
+        unsafe { keeper_fresh(block.as_mut_ptr(), WORDS) };
+        Kept(block)
+    }
+
+    #[inline(always)]
+    fn call(&mut self, record: &[u8]) -> u32 {
+        unsafe { keeper_call(self.0.as_mut_ptr(), WORDS, record.as_ptr(), record.len()) }
+    }
+
+    #[inline(always)]
+    fn ask(&self, seat: u8, privilege: u8) -> u32 {
+        unsafe { keeper_ask(self.0.as_ptr(), WORDS, seat, privilege) }
+    }
+
+    #[inline(always)]
+    fn load(&mut self, bytes: &[u8]) -> u32 {
+        unsafe { keeper_load(self.0.as_mut_ptr(), WORDS, bytes.as_ptr(), bytes.len()) }
+    }
+
+    #[inline(always)]
+    fn save(&self, buffer: &mut [u8]) -> u32 {
+        unsafe { keeper_save(self.0.as_ptr(), WORDS, buffer.as_mut_ptr(), buffer.len()) }
+    }
+}

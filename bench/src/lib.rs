@@ -1,0 +1,10 @@
+//! The keeper beside plain Rust: see `bench/run`.
+
+#[cfg(archive)]
+mod boundary;
+#[cfg(archive)]
+pub mod keeper;
+pub mod plain;
+pub mod side;
+pub mod timing;
+pub mod work;

@@ -1,0 +1,345 @@
+//! Prints the table: each row is one piece of work, the keeper and plain Rust on the same data in the same run.
+//!
+//! `bench [WORD]` prints the rows whose names have the word.
+
+use bench::plain::{Plain, LARGEST_IMAGE, RECORD_LENGTH};
+use bench::side::{loaded, saved, Side};
+use bench::timing::{time_restored, time_steady, Timed};
+use bench::work::{answered, largest, middling, shape, tape, Shape, REFUSED, SPARE};
+use role_reference::generate::short;
+use std::fmt::Display;
+use std::fs::File;
+use std::hint::black_box;
+use std::io;
+use std::path::{Path, PathBuf};
+use std::process::{Command, Stdio};
+
+#[cfg(archive)]
+type Keeper = bench::keeper::Kept;
+/// Without the archive the table still shows how far two times of one program lie apart.
+#[cfg(not(archive))]
+type Keeper = Plain;
+
+/// What the design allows: the keeper's time over that of plain Rust, and layers over a chain.
+const MOST: f64 = 1.5;
+const MOST_OF_LAYERS: f64 = 2.0;
+
+const TAPE_RECORDS: usize = 1_000_000;
+const TAPE_RUNS: usize = 9;
+
+const NAMES: [&str; 12] = [
+    "add by place",
+    "add by privileges",
+    "remove role",
+    "grant",
+    "withdraw",
+    "add edge",
+    "remove edge",
+    "declare",
+    "lift",
+    "assign",
+    "unassign",
+    "ask",
+];
+
+/// The table under way: the word that its rows have, the title of the rows to come, and how many rows there are and how
+/// many lie above what is allowed.
+struct Table {
+    word: String,
+    title: String,
+    rows: usize,
+    above: usize,
+}
+
+impl Table {
+    fn wants(&self, name: &str) -> bool {
+        name.contains(&self.word)
+    }
+
+    fn title(&mut self, title: &str) {
+        self.title = title.to_string();
+    }
+
+    fn row(&mut self, name: &str, timed: &Timed) {
+        if !self.title.is_empty() {
+            let title = std::mem::take(&mut self.title);
+            println!();
+            print_row(&title, "keeper ns", "plain ns", "ratio", "");
+        }
+        let above = timed.ratio.median > MOST;
+        let mark = if above { " *" } else { "" };
+        print_row(name, timed.first, timed.second, timed.ratio, mark);
+        self.rows += 1;
+        self.above += above as usize;
+    }
+
+    /// An operation that leaves the state as it is.
+    fn steady(
+        &mut self,
+        name: &str,
+        state: &Plain,
+        mut keeper: impl FnMut(&mut Keeper) -> u32,
+        mut plain: impl FnMut(&mut Plain) -> u32,
+    ) {
+        if self.wants(name) {
+            let sides = both(name, state, &mut keeper, &mut plain);
+            self.row(name, &time_steady(sides, keeper, plain));
+        }
+    }
+
+    /// A record that changes the state.
+    fn changing(&mut self, name: &str, state: &Plain, record: &[u8]) {
+        if self.wants(name) {
+            let sides = both(name, state, &mut given(record), &mut given(record));
+            self.row(name, &time_restored(sides, given(record), given(record)));
+        }
+    }
+
+    /// A record that leaves the state as it is.
+    fn keeping(&mut self, name: &str, state: &Plain, record: &[u8]) {
+        self.steady(name, state, given(record), given(record));
+    }
+}
+
+fn print_row(
+    name: &str,
+    first: impl Display,
+    second: impl Display,
+    ratio: impl Display,
+    mark: &str,
+) {
+    println!("{name:<44} {first:>20} {second:>20} {ratio:>20}{mark}");
+}
+
+/// Giving a record, as an operation.
+fn given<S: Side>(record: &[u8]) -> impl FnMut(&mut S) -> u32 + '_ {
+    |side| side.call(black_box(record))
+}
+
+/// Both sides in the state. They give the same answer and leave the same image, or the run stops.
+fn both(
+    name: &str,
+    state: &Plain,
+    keeper: &mut impl FnMut(&mut Keeper) -> u32,
+    plain: &mut impl FnMut(&mut Plain) -> u32,
+) -> (Keeper, Plain) {
+    let image = saved(state);
+    let sides: (Keeper, Plain) = (loaded(&image), loaded(&image));
+    let (mut first, mut second) = sides.clone();
+    assert_eq!(keeper(&mut first), plain(&mut second), "{name}: answers");
+    assert!(saved(&first) == saved(&second), "{name}: images");
+    sides
+}
+
+fn asks(table: &mut Table) {
+    table.title("ask, without a record");
+    let mut state = shape(Shape::Chain, 62);
+    state.call(&short(10, 1, 9));
+    for role in [3, 9, 20, 40] {
+        state.call(&short(10, 4, role));
+    }
+    for role in 2..64 {
+        state.call(&short(10, 62, role));
+    }
+    for (seat, privilege, name) in [
+        (0, 5, "ask: seat without a role, no"),
+        (1, 5, "ask: seat with 1 role, yes"),
+        (1, 40, "ask: seat with 1 role, no"),
+        (4, 30, "ask: seat with 4 roles, yes"),
+        (4, 50, "ask: seat with 4 roles, no"),
+        (62, 62, "ask: seat with 62 roles, no"),
+        (64, 0, "ask: refused 2"),
+    ] {
+        table.steady(
+            name,
+            &state,
+            |side| Side::ask(side, black_box(seat), black_box(privilege)),
+            |side| Side::ask(side, black_box(seat), black_box(privilege)),
+        );
+    }
+}
+
+fn calls(table: &mut Table) {
+    let state = middling();
+    let roles = state.roles().count_ones();
+    table.title(&format!("records, on a middling state of {roles} roles"));
+    for kind in 1..=12u8 {
+        let name = format!("kind {kind}, {}", NAMES[kind as usize - 1]);
+        let record = answered(&state, kind, 0).expect("an accepted record is found");
+        match kind {
+            12 => table.keeping(&format!("{name}: yes"), &state, &record),
+            _ => table.changing(&format!("{name}: accepted"), &state, &record),
+        }
+        for (_, number) in REFUSED.iter().filter(|refused| refused.0 == kind) {
+            let record = answered(&state, kind, *number).expect("a refused record is found");
+            table.keeping(&format!("{name}: refused {number}"), &state, &record);
+        }
+    }
+    table.keeping("kind 12, ask: refused 2", &state, &short(12, 64, 0));
+    table.keeping("record of 31 bytes: refused 1", &state, &[1; 31]);
+    table.keeping("record of kind 13: refused 1", &state, &short(13, 2, 3));
+}
+
+fn grants(table: &mut Table) {
+    table.title("grant to the lowest role");
+    let record = short(4, 2, SPARE);
+    for count in [8, 16, 32, 62] {
+        for (lie, name) in [
+            (Shape::Chain, "in a chain"),
+            (Shape::Layers, "in layers of three"),
+            (Shape::Unrelated, "unrelated"),
+        ] {
+            let name = format!("grant: {count} roles {name}");
+            table.changing(&name, &shape(lie, count), &record);
+        }
+    }
+}
+
+/// The keeper on layers beside the keeper on a chain of as many roles.
+fn layers(table: &Table) {
+    let name = |count: &u8| format!("layers: {count} roles");
+    let counts = [8, 16, 32, 62].into_iter();
+    let wanted: Vec<u8> = counts.filter(|count| table.wants(&name(count))).collect();
+    if !wanted.is_empty() {
+        println!();
+        print_row(
+            "grant, layers beside a chain, the keeper",
+            "layers ns",
+            "chain ns",
+            "ratio",
+            "",
+        );
+    }
+    let record = short(4, 2, SPARE);
+    for count in wanted {
+        let on = |lie| loaded::<Keeper>(&saved(&shape(lie, count)));
+        let sides = (on(Shape::Layers), on(Shape::Chain));
+        let timed = time_restored(sides, given(&record), given(&record));
+        let above = timed.ratio.median > MOST_OF_LAYERS;
+        let mark = if above { " *" } else { "" };
+        print_row(&name(&count), timed.first, timed.second, timed.ratio, mark);
+    }
+}
+
+fn images(table: &mut Table) {
+    table.title("images");
+    for (state, size) in [
+        (Plain::fresh(), "smallest"),
+        (middling(), "middling"),
+        (largest(), "largest"),
+    ] {
+        let image = saved(&state);
+        let length = image.len();
+        table.steady(
+            &format!("load the {size}, {length} bytes"),
+            &state,
+            |side| Side::load(side, black_box(&image)),
+            |side| Side::load(side, black_box(&image)),
+        );
+        let (mut first, mut second) = ([0; LARGEST_IMAGE], [0; LARGEST_IMAGE]);
+        table.steady(
+            &format!("save the {size}, {length} bytes"),
+            &state,
+            |side| Side::save(side, black_box(&mut first[..])),
+            |side| Side::save(side, black_box(&mut second[..])),
+        );
+    }
+}
+
+// ---- the tape, through the two programs
+
+fn program(path: &Path, tape: &Path) -> io::Result<Command> {
+    let mut command = Command::new(path);
+    command.stdin(File::open(tape)?);
+    Ok(command)
+}
+
+/// The lines that a program writes.
+fn lines(path: &Path, tape: &Path) -> io::Result<Vec<u8>> {
+    Ok(program(path, tape)?.output()?.stdout)
+}
+
+/// The processor time of the programs that have ended, in nanoseconds: unlike the clock's, it leaves out what the
+/// machine does beside them. Fields 16 and 17 of the kernel's line, which counts in hundredths of a second.
+fn programs_time() -> io::Result<u64> {
+    let line = std::fs::read_to_string("/proc/self/stat")?;
+    let fields = line.rsplit(')').next().unwrap_or_default();
+    let times = fields.split_whitespace().skip(13).take(2);
+    Ok(times
+        .filter_map(|time| time.parse::<u64>().ok())
+        .sum::<u64>()
+        * 10_000_000)
+}
+
+/// Nanoseconds a record, the program's start and end included.
+fn run_time(path: &Path, tape: &Path) -> io::Result<f64> {
+    let before = programs_time()?;
+    let status = program(path, tape)?.stdout(Stdio::null()).status()?;
+    assert!(status.success(), "{path:?} runs");
+    Ok((programs_time()? - before) as f64 / TAPE_RECORDS as f64)
+}
+
+fn programs(table: &mut Table) -> io::Result<()> {
+    let name = "benchtape beside plaintape, for a record";
+    if !table.wants(name) {
+        return Ok(());
+    }
+    let (bytes, accepted) = tape(TAPE_RECORDS);
+    let share = 100.0 * accepted as f64 / TAPE_RECORDS as f64;
+    table.title(&format!(
+        "a tape of a million records, {share:.0} % accepted"
+    ));
+    let folder = Path::new(env!("CARGO_MANIFEST_DIR"));
+    let tape = folder.join("target/mixed.tape");
+    std::fs::write(&tape, bytes)?;
+    let proved = folder.join("../target/bin/benchtape");
+    let plain: PathBuf = std::env::current_exe()?.with_file_name("plaintape");
+    let keeper = if proved.exists() {
+        proved
+    } else {
+        println!("target/bin/benchtape is not there: plaintape stands in for it");
+        plain.clone()
+    };
+    let (first, second) = (lines(&keeper, &tape)?, lines(&plain, &tape)?);
+    assert!(first == second, "the programs write the same lines");
+    assert_eq!(
+        first.iter().filter(|byte| **byte == b'\n').count(),
+        TAPE_RECORDS + 1
+    );
+    let timed = Timed::in_turn(
+        TAPE_RUNS,
+        || run_time(&keeper, &tape).expect("the program runs"),
+        || run_time(&plain, &tape).expect("the program runs"),
+    );
+    table.row(name, &timed);
+    println!(
+        "the tape has {} bytes: {}",
+        TAPE_RECORDS * RECORD_LENGTH,
+        tape.display()
+    );
+    Ok(())
+}
+
+fn main() -> io::Result<()> {
+    let word = std::env::args().nth(1).unwrap_or_default();
+    let mut table = Table {
+        word,
+        title: String::new(),
+        rows: 0,
+        above: 0,
+    };
+    if cfg!(not(archive)) {
+        println!(
+            "target/staticlib/libboundary.a is not there: plain Rust stands in for the keeper"
+        );
+    }
+    println!("medians with their quartiles; * marks a ratio above {MOST}, of layers to a chain above {MOST_OF_LAYERS}");
+    asks(&mut table);
+    calls(&mut table);
+    grants(&mut table);
+    layers(&table);
+    images(&mut table);
+    programs(&mut table)?;
+    println!("\n{} of {} rows above {MOST}", table.above, table.rows);
+    Ok(())
+}

@@ -1,0 +1,63 @@
+//! What both sides can do, with the answers in the boundary's numbers, so that one function times either.
+
+use crate::plain::{Answer, Plain};
+
+pub trait Side: Clone {
+    fn fresh() -> Self;
+    fn call(&mut self, record: &[u8]) -> u32;
+    fn ask(&self, seat: u8, privilege: u8) -> u32;
+    fn load(&mut self, bytes: &[u8]) -> u32;
+    fn save(&self, buffer: &mut [u8]) -> u32;
+}
+
+#[inline(always)]
+fn code(answer: Answer) -> u32 {
+    256 * answer.number as u32 + answer.place as u32
+}
+
+impl Side for Plain {
+    fn fresh() -> Plain {
+        Plain::fresh()
+    }
+
+    #[inline(always)]
+    fn call(&mut self, record: &[u8]) -> u32 {
+        code(Plain::call(self, record))
+    }
+
+    #[inline(always)]
+    fn ask(&self, seat: u8, privilege: u8) -> u32 {
+        code(Plain::ask(self, seat, privilege))
+    }
+
+    #[inline(always)]
+    fn load(&mut self, bytes: &[u8]) -> u32 {
+        match Plain::load(self, bytes) {
+            Ok(()) => 0,
+            Err(number) => 256 * number as u32,
+        }
+    }
+
+    #[inline(always)]
+    fn save(&self, buffer: &mut [u8]) -> u32 {
+        match Plain::save(self, buffer) {
+            Ok(length) => length as u32,
+            Err(number) => 65536 + 256 * number as u32,
+        }
+    }
+}
+
+/// A side with the state of an image.
+pub fn loaded<S: Side>(image: &[u8]) -> S {
+    let mut side = S::fresh();
+    assert_eq!(side.load(image), 0, "the image loads");
+    side
+}
+
+/// The image of a side's state.
+pub fn saved<S: Side>(side: &S) -> Vec<u8> {
+    let mut buffer = vec![0; crate::plain::LARGEST_IMAGE];
+    let length = side.save(&mut buffer);
+    buffer.truncate(length as usize);
+    buffer
+}

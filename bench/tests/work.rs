@@ -1,0 +1,61 @@
+//! What is timed is what it is called, and the plain tape program writes document 01's lines.
+
+use bench::plain::{Plain, LARGEST_IMAGE};
+use bench::side::saved;
+use bench::work::{answered, largest, middling, shape, tape, Shape, REFUSED};
+use role_reference::reference::Reference;
+use std::io::Write;
+use std::process::{Command, Stdio};
+
+#[test]
+fn shapes_have_their_edges() {
+    for count in [8, 16, 32, 62] {
+        let edges = |lie| shape(lie, count).edge_count();
+        let n = count as u64;
+        assert_eq!(edges(Shape::Chain), n + 1);
+        assert_eq!(edges(Shape::Unrelated), 2 * n);
+        // Three edges from MinRole, three down from each role above the lowest layer, and those of the last layer up.
+        let last = (n - 1) % 3 + 1;
+        assert_eq!(edges(Shape::Layers), 3 + 3 * (n - 3) + last);
+    }
+}
+
+#[test]
+fn images_have_their_lengths() {
+    assert_eq!(saved(&Plain::fresh()).len(), 16);
+    assert_eq!(saved(&middling()).len(), 16 + 9 * 24 + 9 * 16 + 2 * 24);
+    assert_eq!(saved(&largest()).len(), LARGEST_IMAGE);
+}
+
+#[test]
+fn every_timed_record_is_found() {
+    let state = middling();
+    for kind in 1..=12 {
+        assert!(answered(&state, kind, 0).is_some(), "kind {kind}");
+    }
+    for (kind, number) in REFUSED {
+        assert!(answered(&state, kind, number).is_some(), "{kind}: {number}");
+    }
+}
+
+fn plaintape(bytes: &[u8]) -> String {
+    let mut program = Command::new(env!("CARGO_BIN_EXE_plaintape"))
+        .stdin(Stdio::piped())
+        .stdout(Stdio::piped())
+        .spawn()
+        .expect("plaintape starts");
+    let mut input = program.stdin.take().expect("a pipe");
+    input.write_all(bytes).expect("plaintape reads");
+    drop(input);
+    let output = program.wait_with_output().expect("plaintape ends");
+    String::from_utf8(output.stdout).expect("text")
+}
+
+#[test]
+fn plaintape_writes_the_lines() {
+    let (bytes, _) = tape(1024);
+    for length in [0, 1, 32, 33, 1000 * 32, 1024 * 32 - 1, 1024 * 32] {
+        let part = &bytes[..length];
+        assert!(plaintape(part) == Reference::tape(part), "{length} bytes");
+    }
+}
