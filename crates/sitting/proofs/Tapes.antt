@@ -1,0 +1,121 @@
+-- The laws of the places of a tape: the part of a tape that is the record at a place, the records from a place on, and that reading on from 0 gives the records of the tape.
+-- Assumes nothing.
+use mathlib.Core.Path.{_≡_, refl, sym, ap, _∙_}
+use mathlib.Core.Bool.{Bool, true, false, not, cond}
+use mathlib.Core.List.{List, [], _∷_}
+use Prim.Native.Nat.{ℕ, zero, suc, _+_, _-_, _≤_, _<_, min}
+use native.Mathlib.Omega.{arith}
+use native.Mathlib.Nat.{not-suc-le-zero}
+use lib.Dec.{leb}
+use lib.ListN.{length, take, drop, length-drop, drop-of-length-le}
+use lib.Seq.{take-all, take-nil, drop-drop}
+use borrow.Author.Tests.{leb-true, leb-false, not-true, not-false}
+use Rattle.lists.specs.Runs.{run}
+use Rattle.seats.specs.Seats.{State}
+use Rattle.seats.specs.Records.{step}
+use Rattle.seats.specs.Lists.{end}
+use Rattle.seats.specs.Tape.{records-upto, records}
+use Rattle.sitting.specs.Places.{is-end, record-at, record-end, records-from}
+
+-- What a test of the place says of it, the test being negated.
+pub before-end : (tape : List ℕ) (at : ℕ) {b : Bool} → b ≡ is-end tape at → not b ≡ true → at < length tape
+before-end tape at {b} e f = leb-false (length tape) at (sym e ∙ not-true b f)
+
+pub at-end : (tape : List ℕ) (at : ℕ) {b : Bool} → b ≡ is-end tape at → not b ≡ false → length tape ≤ at
+at-end tape at {b} e f = leb-true (length tape) at (sym e ∙ not-false b f)
+
+-- What is taken ends at the list's end.
+take-min : (n : ℕ) (l : List ℕ) → take (min n (length l)) l ≡ take n l
+take-min n l = go (leb n (length l)) refl
+  where
+    go : (b : Bool) → leb n (length l) ≡ b → take (min n (length l)) l ≡ take n l
+    go true e =
+        let h : n ≤ length l = leb-true n (length l) e in
+        let s : min n (length l) ≡ n = omega arith in
+        ap (λ (m : ℕ). take m l) s
+    go false e =
+        let h : length l < n = leb-false n (length l) e in
+        take-all (min n (length l)) l (omega arith) ∙ sym (take-all n l (omega arith))
+
+-- What is dropped ends at the list's end.
+drop-min : (n : ℕ) (l : List ℕ) → drop (min n (length l)) l ≡ drop n l
+drop-min n l = go (leb n (length l)) refl
+  where
+    go : (b : Bool) → leb n (length l) ≡ b → drop (min n (length l)) l ≡ drop n l
+    go true e =
+        let h : n ≤ length l = leb-true n (length l) e in
+        let s : min n (length l) ≡ n = omega arith in
+        ap (λ (m : ℕ). drop m l) s
+    go false e =
+        let h : length l < n = leb-false n (length l) e in
+        drop-of-length-le l {i = min n (length l)} (omega arith) ∙ sym (drop-of-length-le l {i = n} (omega arith))
+
+-- The part of a tape from a place to where the record there ends is that record.
+pub part-is : (tape : List ℕ) (at e : ℕ) → e ≡ record-end tape at → at ≤ e → take (e - at) (drop at tape) ≡ record-at tape at
+part-is tape at e p h =
+    let w : e - at ≡ min 32 (length (drop at tape)) = rw length-drop (omega arith) in
+    ap (λ (n : ℕ). take n (drop at tape)) w ∙ take-min 32 (drop at tape)
+
+-- Beyond the end the record is empty.
+pub part-none : (tape : List ℕ) (at e : ℕ) → e ≡ record-end tape at → e < at → take (e - e) (drop e tape) ≡ record-at tape at
+part-none tape at e p h =
+    let z : e - e ≡ 0 = omega arith in
+    let out : length tape ≤ at = omega arith in
+    ap (λ (n : ℕ). take n (drop e tape)) z ∙ sym (ap (take 32) (drop-of-length-le tape {i = at} out) ∙ take-nil 32)
+
+-- As many as there are bytes are enough.
+enough : (m n : ℕ) (l : List ℕ) → length l ≤ m → length l ≤ n → records-upto m l ≡ records-upto n l
+unfolding records-upto
+enough zero zero l h k = refl
+enough zero (suc n) [] h k = refl
+enough zero (suc n) (x ∷ l) h k = absurd (not-suc-le-zero h)
+enough (suc m) zero [] h k = refl
+enough (suc m) zero (x ∷ l) h k = absurd (not-suc-le-zero k)
+enough (suc m) (suc n) [] h k = refl
+enough (suc m) (suc n) (x ∷ l) h k =
+    ap (λ (rest : List (List ℕ)). take 32 (x ∷ l) ∷ rest) (enough m n (drop 32 (x ∷ l)) (rw length-drop (omega arith)) (rw length-drop (omega arith)))
+
+-- A list that is not empty has its first record, and those of what is left.
+records-first : (l : List ℕ) → 0 < length l → records l ≡ take 32 l ∷ records (drop 32 l)
+unfolding records-upto records
+records-first [] h = absurd (not-suc-le-zero h)
+records-first (x ∷ l) h =
+    ap (λ (rest : List (List ℕ)). take 32 (x ∷ l) ∷ rest) (enough (length l) (length (drop 32 (x ∷ l))) (drop 32 (x ∷ l)) (rw length-drop (omega arith)) (rw length-drop (omega arith)))
+
+-- No record is left at the end.
+pub records-none : (tape : List ℕ) (at : ℕ) → length tape ≤ at → records (drop at tape) ≡ []
+unfolding records-upto records
+records-none tape at h = ap records (drop-of-length-le tape {i = at} h)
+
+-- Before the end the record there is left, and those from where it ends.
+pub records-more : (tape : List ℕ) (at : ℕ) → at < length tape → records (drop at tape) ≡ record-at tape at ∷ records (drop (record-end tape at) tape)
+records-more tape at h =
+    records-first (drop at tape) (rw length-drop (omega arith))
+    ∙ ap (λ (l : List ℕ). record-at tape at ∷ records l) (drop-drop 32 at tape ∙ sym (drop-min (at + 32) tape))
+
+-- Reading on from a place gives the records that are left.
+pub reads-left : (n : ℕ) (tape : List ℕ) (at : ℕ) → length tape - at ≤ n → records-from n tape at ≡ records (drop at tape)
+unfolding records-from
+reads-left zero tape at h = sym (records-none tape at (omega arith))
+reads-left (suc n) tape at h = go (is-end tape at) refl (λ k. reads-left n tape (record-end tape at) (omega arith))
+  where
+    go : (b : Bool) → is-end tape at ≡ b → (at < length tape → records-from n tape (record-end tape at) ≡ records (drop (record-end tape at) tape))
+        → cond b [] (record-at tape at ∷ records-from n tape (record-end tape at)) ≡ records (drop at tape)
+    go true e later = sym (records-none tape at (leb-true (length tape) at e))
+    go false e later =
+        let k = leb-false (length tape) at e in
+        ap (λ (l : List (List ℕ)). record-at tape at ∷ l) (later k) ∙ sym (records-more tape at k)
+
+-- Reading on from 0 gives the records of the tape.
+pub reads-records : (tape : List ℕ) → records-from (length tape) tape 0 ≡ records tape
+reads-records tape = reads-left (length tape) tape 0 (omega arith)
+
+-- No record leaves the state.
+pub end-none : (s : State) → end s [] ≡ s
+unfolding end run
+end-none s = refl
+
+-- A record and those after it leave what those after it leave of the state that it leaves.
+pub end-more : (s : State) (r : List ℕ) (l : List (List ℕ)) → end s (r ∷ l) ≡ end (step s r .1) l
+unfolding end run
+end-more s r l = refl

@@ -1,0 +1,14 @@
+// The lent state: each call of a sitting alters it.
+ghost use Rattle.seats.specs.Promises.{StepPromise};
+use seats::Answer;
+use seats::State;
+use seats::stepping;
+
+// The step on a lent state: its answer, and the state altered.
+pub fn call(state: &mut State, bytes: &[u8]) -> Answer
+    ensures { λ r. ⌜ StepPromise (now (state .entry)) (now (bytes .entry)) r (now (state .exit)) ⌝ }
+{
+    let next = stepping::step(*state, bytes);
+    *state = next.state;
+    next.answer
+}
