@@ -34,7 +34,7 @@ fn included_in(all: u64, sets: &[u64; 64], top: u64) -> u64
     while rest != 0 {
         let r = sets::lowest_member(rest) as usize;
         let on = sets::strictly_included(sets[r], top);
-        found = sets::union(found, sets::when(on, sets::single(r)));
+        found = sets::union(found, sets::when(on, sets::lowest_alone(rest)));
         rest = sets::without_lowest(rest);
     }
     found
@@ -147,7 +147,7 @@ fn above(roles: u64, sets: &[u64; 64], all: u64, r: usize) -> u64
     while rest != 0 {
         let s = sets::lowest_member(rest) as usize;
         let on = lies_below(roles, sets, r, s);
-        found = sets::union(found, sets::when(on, sets::single(s)));
+        found = sets::union(found, sets::when(on, sets::lowest_alone(rest)));
         rest = sets::without_lowest(rest);
     }
     found
