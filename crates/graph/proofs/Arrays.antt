@@ -1,7 +1,7 @@
 -- The edits as tables of sets: what the code stores has the direct privileges and the juniors that each edit says.
 -- Assumes nothing.
 use mathlib.Core.Path.{_≡_, refl, sym, ap, ap₂, _∙_, subst}
-use mathlib.Core.Bool.{Bool, true, false, not, _&&_, _||_, or-false, and-true}
+use mathlib.Core.Bool.{Bool, true, false, not, _&&_, _||_, or-false, and-true, and-false}
 use mathlib.Core.Logic.{_≢_, inl, inr}
 use mathlib.Core.List.{List, [], _++_}
 use Prim.Native.Nat.{ℕ, _<_, _≤_, _^_}
@@ -163,11 +163,10 @@ module _ (g : Graph) (h : g .roles < 2 ^ role-count) where
           ∙ sym (ap (λ (x : Bool). (edge g t r && not (x && eqb t a)) || ((x && edge g t a) || (edge g b r && eqb t a))) (fails (eqb r b) (λ x. d (test-equal x)))
           ∙ ap (λ (x : Bool). x || (edge g b r && eqb t a)) (and-true (edge g t r)))
 
-  -- Kind 3: a's juniors joined to each role above a, a taken out there, and a left without juniors.
+  -- Kind 3: a taken out of each role above it, its juniors joined there, and a left without juniors.
   pub remove-joins : (a b P : ℕ) → a < role-count → ((t r : ℕ) → T (edge g t r) → T (member r P)) → (t r : ℕ) → t < role-count → r < role-count
       → (let R = collect role-count (λ r. member r P && member a (at drawn r)) in
-      let J = table role-count (λ r. union (at drawn r) (when (member r R) (at drawn a))) in
-      let K = table role-count (λ r. difference (at J r) (when (member r R) (single a))) in
+      let K = table role-count (λ r. union (difference (at drawn r) (when (member r R) (single a))) (when (member r R) (at drawn a))) in
       member t (at (set K a 0) r)) ≡ edit (remove-role a b) (redraw g) .joins t r
   unfolding edit redraw
   remove-joins a b P ka all t r k l = elim (ℕ-discrete r a) [ yes e ↦ here e | no d ↦ there d ]
@@ -175,11 +174,8 @@ module _ (g : Graph) (h : g .roles < 2 ^ role-count) where
       R : ℕ
       R = collect role-count (λ r. member r P && member a (at drawn r))
 
-      f : ℕ → ℕ
-      f r = union (at drawn r) (when (member r R) (at drawn a))
-
       k2 : ℕ → ℕ
-      k2 r = difference (at (table role-count f) r) (when (member r R) (single a))
+      k2 r = union (difference (at drawn r) (when (member r R) (single a))) (when (member r R) (at drawn a))
 
       Goal : Type 0
       Goal = member t (at (set (table role-count k2) a 0) r) ≡ not (eqb r a) && ((edge g t r || (edge g a r && edge g t a)) && not (eqb t a))
@@ -191,21 +187,23 @@ module _ (g : Graph) (h : g .roles < 2 ^ role-count) where
           ∙ member-empty t
           ∙ sym (ap (λ (x : Bool). not x && ((edge g t r || (edge g a r && edge g t a)) && not (eqb t a))) (passes (eqb r a) (equal-test e)))
 
-      only : (x e y q : Bool) → (T q → x ≡ e) → (x || (e && y)) && not (e && q) ≡ (x || (e && y)) && not q
-      only x true y q s = refl
-      only true false y true s = absurd (subst T (s tt) tt)
-      only true false y false s = refl
-      only false false y q s = refl
+      only : (x e y q : Bool) → (T q → x ≡ e) → (T q → y ≡ false) → (x && not (e && q)) || (e && y) ≡ (x || (e && y)) && not q
+      only true true y true s z = z tt
+      only true false y true s z = absurd (subst T (s tt) tt)
+      only true e y false s z = rw (and-false e)
+      only false true y true s z = z tt ∙ sym (and-false y)
+      only false false y true s z = refl
+      only false e y false s z = sym (and-true (e && y))
 
       there : r ≢ a → Goal
       there d =
           ap (member t) (set-other (table role-count k2) (length-table role-count k2) a 0 ka r d ∙ at-table role-count r k2 l)
-          ∙ member-difference t (at (table role-count f) r) (when (member r R) (single a))
-          ∙ ap₂ (λ (x y : Bool). x && not y)
-          (ap (member t) (at-table role-count r f l) ∙ member-union t (at drawn r) (when (member r R) (at drawn a))
-          ∙ ap₂ _||_ (drawn-at t r k l) (member-when t (member r R) (at drawn a) ∙ ap₂ _&&_ (seniors-at P a ka all r l) (drawn-at t a k ka)))
-          (member-when t (member r R) (single a) ∙ ap₂ _&&_ (seniors-at P a ka all r l) (member-single t a))
-          ∙ only (edge g t r) (edge g a r) (edge g t a) (eqb t a) (λ q. ap (λ (i : ℕ). edge g i r) (test-equal q))
+          ∙ member-union t (difference (at drawn r) (when (member r R) (single a))) (when (member r R) (at drawn a))
+          ∙ ap₂ _||_
+          (member-difference t (at drawn r) (when (member r R) (single a))
+          ∙ ap₂ (λ (x y : Bool). x && not y) (drawn-at t r k l) (member-when t (member r R) (single a) ∙ ap₂ _&&_ (seniors-at P a ka all r l) (member-single t a)))
+          (member-when t (member r R) (at drawn a) ∙ ap₂ _&&_ (seniors-at P a ka all r l) (drawn-at t a k ka))
+          ∙ only (edge g t r) (edge g a r) (edge g t a) (eqb t a) (λ q. ap (λ (i : ℕ). edge g i r) (test-equal q)) (λ q. ap (λ (i : ℕ). edge g i a) (test-equal q) ∙ no-loop a)
           ∙ sym (ap (λ (x : Bool). not x && ((edge g t r || (edge g a r && edge g t a)) && not (eqb t a))) (fails (eqb r a) (λ x. d (test-equal x))))
 
 -- ---- MaxRole's juniors

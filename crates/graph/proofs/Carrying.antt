@@ -12,7 +12,7 @@ use lib.Pow.{pow-pos}
 use lib.Dec.{T, eqb, ltb, lt→ltb}
 use Rattle.sets.proofs.Tests.{passes}
 use Rattle.sets.specs.Sets.{member, single, union, difference, when, collect}
-use Rattle.sets.proofs.Laws.{union-lt, difference-lt, single-lt, when-lt, collect-lt}
+use Rattle.sets.proofs.Laws.{union-lt, difference-lt, difference-empty, single-lt, when-lt, collect-lt}
 use Rattle.graph.specs.Tables.{at, table}
 use Rattle.graph.specs.Graph.{Graph, role-count, privilege-count}
 use Rattle.graph.specs.Drawing.{edge, juniors, direct, redraw, direct-table}
@@ -26,7 +26,7 @@ use Rattle.graph.proofs.Tables.{at-table, length-table, at-end, set-tab
 use Rattle.graph.proofs.Order.{present-cases, edge-below, above-min}
 use Rattle.graph.proofs.Heights.{order}
 use Rattle.graph.proofs.Refusals.{Passes, parts, passed-passes, number-lt}
-use Rattle.graph.proofs.Drawings.{seniors-cover, directs-table}
+use Rattle.graph.proofs.Drawings.{seniors-cover, directs-table, table-cong}
 use Rattle.graph.proofs.Edits.{Fits}
 use Rattle.graph.proofs.Arrays.{carried, drawn-at, seniors-at, link-joins, place-joins, unlink-joins, remove-joins, given, taken, emptied}
 
@@ -48,14 +48,23 @@ stored-union a p q r = ap₂ (λ (x : List ℕ) (y : ℕ). set x a y) p (q ∙ a
 pub stored-difference : {E F : List ℕ} (a : ℕ) {u s t : ℕ} → E ≡ F → u ≡ difference (at E a) s → s ≡ t → set E a u ≡ set F a (difference (at F a) t)
 stored-difference a p q r = ap₂ (λ (x : List ℕ) (y : ℕ). set x a y) p (q ∙ ap₂ (λ (x : List ℕ) (y : ℕ). difference (at x a) y) p r)
 
--- A set joined to, or taken out of, each entry of a set of roles, as the code leaves the table.
-pub joined-all : {X Y L : List ℕ} {I M s t : ℕ} → X ≡ Y → I ≡ M → s ≡ t → L ≡ table role-count (λ r. union (at X r) (when (member r I) s)) → L ≡ table role-count (λ r. union (at Y r) (when (member r M) t))
-joined-all {Y = Y} {I = I} {s = s} p q r e =
-    e ∙ ap (λ (x : List ℕ). table role-count (λ r. union (at x r) (when (member r I) s))) p ∙ ap₂ (λ (i x : ℕ). table role-count (λ r. union (at Y r) (when (member r i) x))) q r
+-- A set taken out of, and another joined to, each entry of a set of roles, as the code leaves the table.
+pub exchanged-all : {X Y L : List ℕ} {I M o p s t : ℕ} → X ≡ Y → I ≡ M → o ≡ p → s ≡ t → L ≡ table role-count (λ r. union (difference (at X r) (when (member r I) o)) (when (member r I) s))
+    → L ≡ table role-count (λ r. union (difference (at Y r) (when (member r M) p)) (when (member r M) t))
+exchanged-all {Y = Y} {M = M} {o = o} {s = s} x i q r e =
+    e ∙ ap₂ (λ (l : List ℕ) (m : ℕ). table role-count (λ r. union (difference (at l r) (when (member r m) o)) (when (member r m) s))) x i
+    ∙ ap₂ (λ (u v : ℕ). table role-count (λ r. union (difference (at Y r) (when (member r M) u)) (when (member r M) v))) q r
 
-pub taken-all : {X Y L : List ℕ} {I M s t : ℕ} → X ≡ Y → I ≡ M → s ≡ t → L ≡ table role-count (λ r. difference (at X r) (when (member r I) s)) → L ≡ table role-count (λ r. difference (at Y r) (when (member r M) t))
-taken-all {Y = Y} {I = I} {s = s} p q r e =
-    e ∙ ap (λ (x : List ℕ). table role-count (λ r. difference (at x r) (when (member r I) s))) p ∙ ap₂ (λ (i x : ℕ). table role-count (λ r. difference (at Y r) (when (member r i) x))) q r
+-- The same where nothing is taken out.
+pub joined-all : {X Y L : List ℕ} {I M s t : ℕ} → X ≡ Y → I ≡ M → s ≡ t → L ≡ table role-count (λ r. union (difference (at X r) (when (member r I) 0)) (when (member r I) s))
+    → L ≡ table role-count (λ r. union (at Y r) (when (member r M) t))
+unfolding when
+joined-all {Y = Y} {M = M} {t = t} x i r e =
+    exchanged-all x i refl r e ∙ table-cong role-count _ _ (λ r _. ap (λ (u : ℕ). union u (when (member r M) t)) (whole (member r M) (at Y r)))
+  where
+    whole : (b : Bool) (u : ℕ) → difference u (when b 0) ≡ u
+    whole true u = difference-empty u
+    whole false u = difference-empty u
 
 -- The roles above a, as the code finds them.
 pub found-seniors : {P Q R : ℕ} {X Y : List ℕ} (a : ℕ) → P ≡ Q → X ≡ Y → R ≡ collect role-count (λ r. member r P && member a (at X r)) → R ≡ collect role-count (λ r. member r Q && member a (at Y r))
@@ -221,19 +230,16 @@ module _ (roles : ℕ) (h : roles < 2 ^ role-count) (sets : List ℕ) where
   pub remove-carried : (a b : ℕ) → early g (remove-role a b) ≡ passed
       → (let R = collect role-count (λ r. member r seniors && member a (at J r)) in
       let E = table role-count (λ r. union (at D r) (when (member r R) (when (eqb b 1) (at D a)))) in
-      let K = table role-count (λ r. union (at J r) (when (member r R) (at J a))) in
-      let L = table role-count (λ r. difference (at K r) (when (member r R) (single a))) in
-      Carried g (remove-role a b) (difference roles (single a)) (set E a 0) (set L a 0))
+      let K = table role-count (λ r. union (difference (at J r) (when (member r R) (single a))) (when (member r R) (at J a))) in
+      Carried g (remove-role a b) (difference roles (single a)) (set E a 0) (set K a 0))
   unfolding edit redraw Fits
   remove-carried a b e =
       let ka = remove-lt a b e in
       let R = collect role-count (λ r. member r seniors && member a (at J r)) in
       let f : ℕ → ℕ = λ r. union (at D r) (when (member r R) (when (eqb b 1) (at D a))) in
-      let k : ℕ → ℕ = λ r. union (at J r) (when (member r R) (at J a)) in
-      let l : ℕ → ℕ = λ r. difference (at (table role-count k) r) (when (member r R) (single a)) in
-      let v = bounded-table k (λ r. union-lt role-count _ _ (J-table .entry-lt r) (when-lt role-count (member r R) (at J a) (J-table .entry-lt a))) in
-      let w = bounded-table l (λ r. difference-lt role-count _ _ (v .entry-lt r)) in
-      made (remove-role a b) tt e (difference roles (single a)) (set (table role-count f) a 0) (set (table role-count l) a 0) refl
+      let k : ℕ → ℕ = λ r. union (difference (at J r) (when (member r R) (single a))) (when (member r R) (at J a)) in
+      let w = bounded-table k (λ r. union-lt role-count _ _ (difference-lt role-count _ _ (J-table .entry-lt r)) (when-lt role-count (member r R) (at J a) (J-table .entry-lt a))) in
+      made (remove-role a b) tt e (difference roles (single a)) (set (table role-count f) a 0) (set (table role-count k) a 0) refl
       (set-table w a 0 ka 0 (pow-pos role-count))
       (emptied (table role-count f) (length-table role-count f) (λ r. union (direct g r) (when (eqb b 1 && edge g a r) (direct g a))) (λ r lr. at-table role-count r f lr ∙ handed a b ka r lr) a ka)
       (remove-joins g h a b seniors ka to-senior)

@@ -9,16 +9,16 @@ use native.Mathlib.Omega.{arith}
 use lib.Dec.{T, T-not, not-T, eqb, ltb, lt→ltb}
 use Rattle.sets.specs.Counting.{any, count, sum}
 use Rattle.sets.specs.Sets.{digit, member, single, union, difference, strictly-included, size, when, collect, gather}
-use Rattle.sets.proofs.Tests.{both, join, either, or-left, or-right, same-test, passes, fails, equal-test, test-equal}
+use Rattle.sets.proofs.Tests.{both, join, either, or-left, or-right, same-test, passes, fails, equal-test, test-equal, so}
 use Rattle.sets.proofs.Counting.{any-some, some-any, any-cong, count-cong, sum-cong}
 use Rattle.sets.proofs.Laws.{binary, member-lt, member-single, member-union, member-difference, member-collect, member-gather, member-empty, equal-members, extensional, difference-empty, difference-lt, collect-lt, gather-cong}
 use Rattle.sets.proofs.Members.{in-empty, in-collect, collect-in, no-members}
 use Rattle.order.specs.Paths.{drawn}
 use Rattle.graph.specs.Tables.{at, table}
 use Rattle.graph.specs.Graph.{Graph, role-count, min-role, max-role, is-end, ordinary, present, effective}
-use Rattle.graph.specs.Drawing.{below, edge, juniors, seniors, edge-count, direct, roles-below, roles-above, direct-table}
+use Rattle.graph.specs.Drawing.{below, edge, juniors, seniors, edge-count, direct, roles-below, direct-table}
 use Rattle.graph.proofs.Tables.{length-table, at-table, table-ext}
-use Rattle.graph.proofs.Order.{Under, from-min, to-max, inside, is-end-lt, lt-is-end, ordinary-parts, present-cases, ordinary-present, end-present, ordinary-lt, present-lt, below-cases, below-join}
+use Rattle.graph.proofs.Order.{Under, from-min, to-max, inside, is-end-lt, lt-is-end, ordinary-parts, present-cases, ordinary-present, end-present, ordinary-lt, present-lt, below-cases, below-join, edge-below}
 
 -- ---- the order by a few tests
 -- The set 3 has the numbers of the end roles.
@@ -171,17 +171,6 @@ module _ (g : Graph) (h : g .roles < 2 ^ role-count) where
       (λ n.
       member-empty n ∙ sym (below-member n s ∙ below-tests g n s ∙ rw (fails (ordinary g s) f, fails (eqb s max-role) (λ t. d (test-equal t)))))
 
--- Only a role among the ordinary ones and MaxRole lies above another.
-pub above-seniors : (g : Graph) (r : ℕ) → collect role-count (λ s. member s (union (difference (g .roles) 3) 2) && below g r s) ≡ roles-above g r
-unfolding single
-above-seniors g r =
-    extensional role-count _ _ (collect-lt role-count _) (collect-lt role-count _)
-    (λ s l.
-    collected s role-count (λ s. member s (union (difference (g .roles) 3) 2) && below g r s) l
-    ∙ ap (λ (b : Bool). b && below g r s) (member-with g max-role s)
-    ∙ needless (ordinary g s || eqb s max-role) (below g r s) (λ t. both (ordinary g s || eqb s max-role) _ (subst T (below-tests g r s) t) .0)
-    ∙ sym (collected s role-count (λ s. below g r s) l))
-
 -- ---- the drawn edges
 -- What passes p without what q reaches from it: what passes p with nothing between.
 picked : (n : ℕ) (p : ℕ → Bool) (q : ℕ → ℕ → Bool) (d : ℕ → Bool) → ((i : ℕ) → p i && not (any n (λ t. p t && q t i)) ≡ d i)
@@ -202,11 +191,6 @@ unfolding juniors edge drawn
 juniors-picked g s =
     picked role-count (λ r. below g r s) (λ t r. below g r t) (λ r. edge g r s)
     (λ r. ap (λ (b : Bool). below g r s && not b) (any-cong role-count _ _ (λ t _. and-comm (below g t s) (below g r t))))
-
--- The immediate seniors are the roles above that lie above none of these.
-pub seniors-picked : (g : Graph) (r : ℕ) → difference (roles-above g r) (gather role-count (λ t. member t (roles-above g r)) (roles-above g)) ≡ seniors g r
-unfolding seniors edge drawn
-seniors-picked g r = picked role-count (λ s. below g r s) (λ t s. below g t s) (λ s. edge g r s) (λ s. refl)
 
 -- The direct privileges are the effective ones that no immediate junior has.
 pub direct-picked : (g : Graph) (s : ℕ) → difference (at (g .sets) s) (gather role-count (λ r. member r (juniors g s)) (at (g .sets))) ≡ direct g s
@@ -265,6 +249,21 @@ module _ (g : Graph) (h : g .roles < 2 ^ role-count) (all : ℕ) (c : Covers g a
   no-juniors : (s : ℕ) → (T (member s all) → ⊥) → juniors g s ≡ 0
   unfolding difference
   no-juniors s f = sym (juniors-picked g s) ∙ rw (outside s f)
+
+  -- The roles that have r among their immediate juniors are its immediate seniors.
+  pub seniors-found : (r : ℕ) → collect role-count (λ s. member s all && member r (at (table role-count (juniors g)) s)) ≡ seniors g r
+  unfolding seniors juniors
+  seniors-found r =
+      extensional role-count _ _ (collect-lt role-count _) (collect-lt role-count _)
+      (λ s l.
+      collected s role-count (λ s. member s all && member r (at (table role-count (juniors g)) s)) l
+      ∙ ap (λ (j : ℕ). member s all && member r j) (at-table role-count s (juniors g) l)
+      ∙ needless (member s all) (member r (juniors g s)) (λ t. so (member s all) (λ f. in-empty r (subst (λ (j : ℕ). T (member r j)) (no-juniors s (T-not (member s all) f)) t)))
+      ∙ junior s
+      ∙ sym (collected s role-count (λ s. edge g r s) l))
+    where
+      junior : (s : ℕ) → member r (juniors g s) ≡ edge g r s
+      junior s = member-collect r role-count (λ r. edge g r s) ∙ bounded r role-count (edge g r s) (λ t. present-lt g r h (below-cases g r s (edge-below g r s t) .0))
 
   pub lowers-table : table role-count (λ s. cond (member s all) (roles-below g s) 0) ≡ table role-count (roles-below g)
   lowers-table = table-cong role-count _ _ (λ s _. chosen (member s all) (roles-below g s) 0 (roles-below g s) (λ _. refl) (λ f. sym (outside s f)))

@@ -13,7 +13,7 @@ use lib.ListN.{length, set, length-set}
 use lib.Pow.{pow-pos}
 use lib.Seq.{getD-set-same, getD-set-other}
 use Rattle.sets.specs.Counting.{sum}
-use Rattle.sets.specs.Sets.{member, single, union, when, collect, gather, lowest-member, without-lowest}
+use Rattle.sets.specs.Sets.{member, single, union, when, collect, gather, lowest-member, without-lowest, lowest-alone}
 use Rattle.sets.proofs.Tests.{both, same-test, passes, fails, equal-test, test-equal}
 use Rattle.sets.proofs.Counting.{sum-cong}
 use Rattle.sets.proofs.Laws.{member-lt, equal-members, union-lt, when-lt, single-lt}
@@ -39,6 +39,13 @@ module _ {all rest : ℕ} (l : Left all rest) (some : rest ≢ 0) where
 
   pub left-falls : {next : ℕ} → next ≡ without-lowest role-count rest → next < rest
   left-falls e = subst (λ (i : ℕ). i < rest) (sym e) (next-falls role-count rest (l .fits) some)
+
+  -- The lowest member left, as a set.
+  pub left-alone : {one : ℕ} → one ≡ lowest-alone role-count rest → {n : ℕ} → n ≡ lowest-member role-count rest → one ≡ single n
+  unfolding lowest-alone when
+  left-alone e {n} p =
+      let m = lowest-member role-count rest in
+      e ∙ rw (passes (ltb m role-count) (lt→ltb m role-count (left-lowest refl))) (ap single (sym p))
 
   pub left-next : Left all (without-lowest role-count rest)
   left-next = record { small = l .small; fits = next-lt role-count rest (l .fits); within = λ n m. l .within n (next-within role-count rest n m) }
@@ -68,13 +75,11 @@ collecting-none f all h = record { left = left-all all h; below = pow-pos role-c
 
 -- One turn puts n, the lowest member left, in where it passes.
 pub collecting-next : {f : ℕ → Bool} {all rest acc : ℕ} → Collecting f all rest acc → rest ≢ 0
-    → {n next put : ℕ} → n ≡ lowest-member role-count rest → next ≡ without-lowest role-count rest → put ≡ union acc (when (f n) (when (ltb n role-count) (single n)))
+    → {n next put : ℕ} → n ≡ lowest-member role-count rest → next ≡ without-lowest role-count rest → put ≡ union acc (when (f n) (lowest-alone role-count rest))
     → Collecting f all next put
-unfolding when
 collecting-next {f} {all} {rest} {acc} c some {n} {next} {put} p q e =
     let m = lowest-member role-count rest in
-    let h = left-lowest (c .left) some p in
-    let one : put ≡ union acc (when (f n) (single n)) = e ∙ rw (passes (ltb n role-count) (lt→ltb n role-count h)) in
+    let one : put ≡ union acc (when (f n) (single n)) = e ∙ ap (λ (s : ℕ). union acc (when (f n) s)) (left-alone (c .left) some refl p) in
     rw (q, one, p) (record {
       left = left-next (c .left) some;
       below = union-lt role-count _ _ (c .below) (when-lt role-count (f m) (single m) (single-lt role-count m (left-lowest (c .left) some refl)));

@@ -9,9 +9,9 @@ use native.Mathlib.Decide.{ℕ-discrete}
 use native.Mathlib.Omega.{arith}
 use lib.ListN.{length, set, length-set}
 use lib.Seq.{getD-set-same, getD-set-other}
-use lib.Dec.{T, not-T, lit<, eqb, ltb, lt→ltb}
+use lib.Dec.{T, not-T, lit<, eqb}
 use Rattle.sets.specs.Sets.{empty, member, single, union, difference, when, collect, gather, lowest-member, without-lowest}
-use Rattle.sets.proofs.Tests.{join, passes, test-equal}
+use Rattle.sets.proofs.Tests.{join, test-equal}
 use Rattle.sets.proofs.Laws.{member-lt, gather-lt}
 use Rattle.sets.proofs.Members.{in-union, union-left, union-right, in-difference, difference-in, in-single, single-in, in-empty, in-gather, collect-in, no-members}
 use Rattle.sets.proofs.Walks.{member-next}
@@ -63,12 +63,11 @@ memo-more directs juniors done sets r v l e w = record {
 pub role-closed : {directs juniors sets : List ℕ} {done r s v one more : ℕ} (before : ℕ) → Ending juniors → r < role-count
     → Memo directs juniors done sets → ((n : ℕ) → T (member n before) → T (member n done))
     → s ≡ gather role-count (λ t. member t (at juniors r)) (closed-set directs juniors) → v ≡ union (at directs r) s
-    → one ≡ when (ltb r role-count) (single r) → more ≡ union done one
+    → one ≡ single r → more ≡ union done one
     → Memo directs juniors more (set sets r v) × (((n : ℕ) → T (member n before) → T (member n more)) × T (member r more))
-unfolding when
 role-closed {directs} {juniors} {sets} {done} {r} {v = v} before ending l w kept e f g h =
     subst (λ (i : ℕ). Memo directs juniors i (set sets r v) × (((n : ℕ) → T (member n before) → T (member n i)) × T (member r i)))
-    (sym (h ∙ ap (union done) (g ∙ rw (passes (ltb r role-count) (lt→ltb r role-count l))))) (
+    (sym (h ∙ ap (union done) g)) (
       memo-more directs juniors done sets r v l (f ∙ ap (union (at directs r)) e ∙ sym (closed-equation directs juniors ending r l)) w,
       (λ n m. union-left n done (single r) (kept n m), union-right r done (single r) (single-in r)),
     )

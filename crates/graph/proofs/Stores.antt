@@ -1,4 +1,4 @@
--- Loops over the roles in a set that work one set into their entries of a table.
+-- Loops over the roles in a set that change their entries of a table alike.
 -- Assumes nothing.
 use mathlib.Core.Path.{_≡_, refl, sym, ap, _∙_, subst}
 use mathlib.Core.Bool.{Bool, true, false, cond, not}
@@ -7,8 +7,9 @@ use mathlib.Core.List.{List}
 use Prim.Native.Nat.{ℕ}
 use lib.Bits.{or-zero-r}
 use lib.Dec.{T, T-not}
-use Rattle.sets.specs.Sets.{member, union, when, lowest-member}
+use Rattle.sets.specs.Sets.{member, union, difference, when, lowest-member}
 use Rattle.sets.proofs.Tests.{both, fails}
+use Rattle.sets.proofs.Laws.{difference-empty}
 use Rattle.sets.proofs.Walks.{lowest-in, visited}
 use Rattle.graph.specs.Tables.{at, table}
 use Rattle.graph.specs.Graph.{role-count}
@@ -29,12 +30,12 @@ unfolding visited
 filling-left {f} {old} {all} {rest} {n} w some e =
     w .got n ∙ ap (λ (b : Bool). cond b (f n) (old n)) (fails (visited all rest n) (λ v. T-not (member n rest) (both (member n all) (not (member n rest)) v .1) (left-in (w .left) some e)))
 
--- With s worked in by op where a role was visited, at the end s is worked into the entry of each member.
-pub worked-done : (op : ℕ → ℕ → ℕ) → ((x : ℕ) → op x 0 ≡ x) → (s : ℕ) (old : List ℕ) {all rest : ℕ} {l : List ℕ} → Filling (λ r. op (at old r) s) (at old) all rest l → rest ≡ 0
-    → l ≡ table role-count (λ r. op (at old r) (when (member r all) s))
+-- With out taken away and put joined where a role was visited, at the end that is done in the entry of each member.
+pub exchanged-done : (out put : ℕ) (old : List ℕ) {all rest : ℕ} {l : List ℕ} → Filling (λ r. union (difference (at old r) out) put) (at old) all rest l → rest ≡ 0
+    → l ≡ table role-count (λ r. union (difference (at old r) (when (member r all) out)) (when (member r all) put))
 unfolding when
-worked-done op none s old {all} w e = filling-done w e ∙ table-cong role-count _ _ (λ r _. part (member r all) (at old r))
+exchanged-done out put old {all} w e = filling-done w e ∙ table-cong role-count _ _ (λ r _. part (member r all) (at old r))
   where
-    part : (b : Bool) (x : ℕ) → cond b (op x s) x ≡ op x (when b s)
+    part : (b : Bool) (x : ℕ) → cond b (union (difference x out) put) x ≡ union (difference x (when b out)) (when b put)
     part true x = refl
-    part false x = sym (none x)
+    part false x = sym (union-empty (difference x 0) ∙ difference-empty x)

@@ -52,10 +52,6 @@ redraw g = record { roles = g .roles; directs = direct g; joins = edge g }
 abbrev pub roles-below : Graph → ℕ → ℕ
 roles-below g s = collect role-count (λ r. below g r s)
 
--- The roles above r.
-abbrev pub roles-above : Graph → ℕ → ℕ
-roles-above g r = collect role-count (λ s. below g r s)
-
 -- Sets less those of immediate juniors, by a table of these: each role of `all` loses what its juniors have, and any other role keeps its set.
 unfoldable pub direct-table : ℕ → List ℕ → List ℕ → List ℕ
 direct-table all sets juniors =

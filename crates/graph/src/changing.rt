@@ -45,7 +45,7 @@ pub fn placed(
     let mut joins = drawing::draw(roles, sets);
     let mut directs = drawing::direct_sets(drawing::senior_roles(roles), sets, &joins);
     directs[i] = sets::union(directs[i], own);
-    entries::put_all(&mut joins, seniors, sets::single(i));
+    entries::exchange_all(&mut joins, seniors, 0, sets::single(i));
     joins[i] = sets::union(joins[i], juniors);
     closed(sets::union(roles, sets::single(i)), &directs, joins)
 }
@@ -73,13 +73,13 @@ pub fn removed(roles: u64, sets: &[u64; 64], a: Role, b: u8) -> [u64; 64]
     let mut directs = drawing::direct_sets(present, sets, &joins);
     let seniors = entries::seniors_in(present, &joins, i);
     let handed = sets::when(b == 1, directs[i]);
-    entries::put_all(&mut directs, seniors, handed);
+    entries::exchange_all(&mut directs, seniors, 0, handed);
     directs[i] = 0;
     let juniors = joins[i];
-    entries::put_all(&mut joins, seniors, juniors);
-    entries::take_all(&mut joins, seniors, sets::single(i));
+    let own = sets::single(i);
+    entries::exchange_all(&mut joins, seniors, own, juniors);
     joins[i] = 0;
-    closed(sets::difference(roles, sets::single(i)), &directs, joins)
+    closed(sets::difference(roles, own), &directs, joins)
 }
 
 // Kind 4.
@@ -133,7 +133,7 @@ pub fn unlinked(roles: u64, sets: &[u64; 64], a: Role, b: Role) -> [u64; 64]
     let directs = drawing::direct_sets(present, sets, &joins);
     let seniors = entries::seniors_in(present, &joins, j);
     let own = sets::union(sets::difference(joins[j], sets::single(i)), joins[i]);
-    entries::put_all(&mut joins, seniors, sets::single(i));
+    entries::exchange_all(&mut joins, seniors, 0, sets::single(i));
     joins[j] = own;
     closed(roles, &directs, joins)
 }

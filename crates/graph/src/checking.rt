@@ -1,11 +1,11 @@
 // What refuses a change before closing: refusals 2 to 5 and 20 to 25 of kinds 1 to 7, in the order of their numbers.
 ghost use mathlib.Core.Path.{_≡_};
 ghost use mathlib.Core.Bool.{_||_};
-ghost use mathlib.Core.List.{[], _++_};
+ghost use mathlib.Core.List.{[], _∷_, _++_};
 ghost use Rattle.sets.specs.Sets.{member};
 ghost use Rattle.graph.specs.Graph.{present};
 ghost use Rattle.graph.specs.Editing.{add-by-place, add-by-privileges, remove-role, grant, withdraw, add-edge, remove-edge};
-ghost use Rattle.graph.specs.Refusing.{verdict, early, state-checks};
+ghost use Rattle.graph.specs.Refusing.{no-role-number, no-privilege-number, end-role, edge-to-itself, role-absent, verdict, early, state-checks};
 ghost use Rattle.graph.specs.Reading.{drawn-from, read-verdict, read-change};
 use crate::Change;
 use crate::Privilege;
@@ -119,9 +119,9 @@ fn judge_remove(roles: u64, sets: &[u64; 64], a: Role, b: u8) -> Verdict
     Verdict::Passed
 }
 
-// Kind 4.
-fn judge_grant(roles: u64, sets: &[u64; 64], a: Role, b: Privilege) -> Verdict
-    ensures { λ v. ⌜ read-verdict v ≡ early (drawn-from roles (now (sets .entry))) (grant (a .0) (b .0)) ⌝ }
+// What kinds 4 and 5 want of the role and the privilege that they name: refusals 2, 3 and 21.
+fn judge_role_privilege(roles: u64, a: Role, b: Privilege) -> Verdict
+    ensures { λ v. ⌜ read-verdict v ≡ verdict (no-role-number (a .0) ∷ no-privilege-number (b .0) ∷ end-role (a .0) ∷ role-absent (drawn-from roles []) (a .0) ∷ []) ⌝ }
 {
     let r = a.0;
     let p = b.0;
@@ -137,10 +137,20 @@ fn judge_grant(roles: u64, sets: &[u64; 64], a: Role, b: Privilege) -> Verdict
     if !is_present(roles, r) {
         return refuse(21, r);
     }
+    Verdict::Passed
+}
+
+// Kind 4.
+fn judge_grant(roles: u64, sets: &[u64; 64], a: Role, b: Privilege) -> Verdict
+    ensures { λ v. ⌜ read-verdict v ≡ early (drawn-from roles (now (sets .entry))) (grant (a .0) (b .0)) ⌝ }
+{
+    let named = judge_role_privilege(roles, a, b);
+    let Verdict::Passed = named else {
+        return named;
+    };
     let held = drawing::effective_of(sets, a);
-    let j = p as usize;
-    if sets::member(j, held) {
-        return refuse(22, r);
+    if sets::member(b.0 as usize, held) {
+        return refuse(22, a.0);
     }
     Verdict::Passed
 }
@@ -149,24 +159,43 @@ fn judge_grant(roles: u64, sets: &[u64; 64], a: Role, b: Privilege) -> Verdict
 fn judge_withdraw(roles: u64, sets: &[u64; 64], a: Role, b: Privilege) -> Verdict
     ensures { λ v. ⌜ read-verdict v ≡ early (drawn-from roles (now (sets .entry))) (withdraw (a .0) (b .0)) ⌝ }
 {
+    let named = judge_role_privilege(roles, a, b);
+    let Verdict::Passed = named else {
+        return named;
+    };
+    let own = drawing::direct_of(roles, sets, a);
+    if !sets::member(b.0 as usize, own) {
+        return refuse(23, a.0);
+    }
+    Verdict::Passed
+}
+
+// What kinds 6 and 7 want of the two roles that they name: refusals 2, 3, 5 and 21.
+fn judge_two_roles(roles: u64, a: Role, b: Role) -> Verdict
+    ensures { λ v. let g = drawn-from roles [] in ⌜ read-verdict v ≡ verdict (no-role-number (a .0) ∷ no-role-number (b .0) ∷ end-role (a .0) ∷ end-role (b .0) ∷ edge-to-itself (a .0) (b .0) ∷ role-absent g (a .0) ∷ role-absent g (b .0) ∷ []) ⌝ }
+{
     let r = a.0;
-    let p = b.0;
+    let s = b.0;
     if 64 <= r {
         return refuse(2, r);
     }
-    if 64 <= p {
-        return refuse(2, p);
+    if 64 <= s {
+        return refuse(2, s);
     }
     if r < 2 {
         return refuse(3, r);
     }
+    if s < 2 {
+        return refuse(3, s);
+    }
+    if r == s {
+        return refuse(5, r);
+    }
     if !is_present(roles, r) {
         return refuse(21, r);
     }
-    let own = drawing::direct_of(roles, sets, a);
-    let j = p as usize;
-    if !sets::member(j, own) {
-        return refuse(23, r);
+    if !is_present(roles, s) {
+        return refuse(21, s);
     }
     Verdict::Passed
 }
@@ -175,34 +204,15 @@ fn judge_withdraw(roles: u64, sets: &[u64; 64], a: Role, b: Privilege) -> Verdic
 fn judge_link(roles: u64, sets: &[u64; 64], a: Role, b: Role) -> Verdict
     ensures { λ v. ⌜ read-verdict v ≡ early (drawn-from roles (now (sets .entry))) (add-edge (a .0) (b .0)) ⌝ }
 {
-    let r = a.0;
-    let s = b.0;
-    if 64 <= r {
-        return refuse(2, r);
-    }
-    if 64 <= s {
-        return refuse(2, s);
-    }
-    if r < 2 {
-        return refuse(3, r);
-    }
-    if s < 2 {
-        return refuse(3, s);
-    }
-    if r == s {
-        return refuse(5, r);
-    }
-    if !is_present(roles, r) {
-        return refuse(21, r);
-    }
-    if !is_present(roles, s) {
-        return refuse(21, s);
-    }
+    let named = judge_two_roles(roles, a, b);
+    let Verdict::Passed = named else {
+        return named;
+    };
     if drawing::is_below(roles, sets, a, b) {
-        return refuse(22, r);
+        return refuse(22, a.0);
     }
     if drawing::is_below(roles, sets, b, a) {
-        return refuse(25, r);
+        return refuse(25, a.0);
     }
     Verdict::Passed
 }
@@ -211,31 +221,12 @@ fn judge_link(roles: u64, sets: &[u64; 64], a: Role, b: Role) -> Verdict
 fn judge_unlink(roles: u64, sets: &[u64; 64], a: Role, b: Role) -> Verdict
     ensures { λ v. ⌜ read-verdict v ≡ early (drawn-from roles (now (sets .entry))) (remove-edge (a .0) (b .0)) ⌝ }
 {
-    let r = a.0;
-    let s = b.0;
-    if 64 <= r {
-        return refuse(2, r);
-    }
-    if 64 <= s {
-        return refuse(2, s);
-    }
-    if r < 2 {
-        return refuse(3, r);
-    }
-    if s < 2 {
-        return refuse(3, s);
-    }
-    if r == s {
-        return refuse(5, r);
-    }
-    if !is_present(roles, r) {
-        return refuse(21, r);
-    }
-    if !is_present(roles, s) {
-        return refuse(21, s);
-    }
+    let named = judge_two_roles(roles, a, b);
+    let Verdict::Passed = named else {
+        return named;
+    };
     if !drawing::is_edge(roles, sets, a, b) {
-        return refuse(23, r);
+        return refuse(23, a.0);
     }
     Verdict::Passed
 }

@@ -19,17 +19,19 @@ struct Gathered {
     set: u64,
 }
 
-// Puts the set of role r into its entry, unless that is done, and gives the roles that are done.
+// Puts the set of role r into its entry, unless that is done, and gives the roles that are done. `alone` is the set of r alone.
 fn close_role(
     directs: &[u64; 64],
     juniors: &[u64; 64],
     sets: &mut [u64; 64],
     done: u64,
     r: usize,
+    alone: u64,
 ) -> u64
     requires { ⌜ r < role-count ⌝ }
     requires { ⌜ Ending (now juniors) ⌝ }
     requires { ⌜ Memo (now directs) (now juniors) done (now sets) ⌝ }
+    requires { ⌜ alone ≡ spec.single r ⌝ }
     ensures { λ d. ⌜ Memo (now (directs .entry)) (now (juniors .entry)) d (now (sets .exit)) ⌝ }
     ensures { λ d. ⌜ ((n : ℕ) → T (spec.member n done) → T (spec.member n d)) ⌝ }
     ensures { λ d. ⌜ T (spec.member r d) ⌝ }
@@ -39,7 +41,7 @@ fn close_role(
     }
     let g = gather(directs, juniors, sets, done, r);
     sets[r] = sets::union(directs[r], g.set);
-    sets::union(g.done, sets::single(r))
+    sets::union(g.done, alone)
 }
 
 // Does each junior of role r, and joins their sets.
@@ -62,7 +64,7 @@ fn gather(
     let mut rest = table::entry(juniors, r);
     while rest != 0 {
         let t = sets::lowest_member(rest) as usize;
-        done = close_role(directs, juniors, sets, done, t);
+        done = close_role(directs, juniors, sets, done, t, sets::lowest_alone(rest));
         set = sets::union(set, sets[t]);
         rest = sets::without_lowest(rest);
     }
@@ -79,7 +81,14 @@ pub fn close(present: u64, directs: &[u64; 64], juniors: &[u64; 64]) -> [u64; 64
     let mut rest = present;
     while rest != 0 {
         let r = sets::lowest_member(rest) as usize;
-        done = close_role(directs, juniors, &mut sets, done, r);
+        done = close_role(
+            directs,
+            juniors,
+            &mut sets,
+            done,
+            r,
+            sets::lowest_alone(rest),
+        );
         rest = sets::without_lowest(rest);
     }
     sets

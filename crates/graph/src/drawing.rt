@@ -5,10 +5,11 @@ ghost use Rattle.sets.specs.Counting.{sum};
 ghost use Rattle.sets.specs.Sets.{member, union, difference, strictly-included, size, collect, gather};
 ghost use Rattle.graph.specs.Tables.{at, table};
 ghost use Rattle.graph.specs.Graph.{role-count};
-ghost use Rattle.graph.specs.Drawing.{below, edge, juniors, seniors, edge-count, direct, roles-below, roles-above, direct-table};
+ghost use Rattle.graph.specs.Drawing.{below, edge, juniors, seniors, edge-count, direct, roles-below, direct-table};
 ghost use Rattle.graph.specs.Reading.{drawn-from};
 use crate::Role;
 use crate::entries::copied;
+use crate::entries::seniors_in;
 use crate::table::entry;
 
 // The ordinary roles: those present without the numbers of the end roles.
@@ -34,7 +35,7 @@ fn included_in(all: u64, sets: &[u64; 64], top: u64) -> u64
     while rest != 0 {
         let r = sets::lowest_member(rest) as usize;
         let on = sets::strictly_included(sets[r], top);
-        found = sets::union(found, sets::when(on, sets::single(r)));
+        found = sets::union(found, sets::when(on, sets::lowest_alone(rest)));
         rest = sets::without_lowest(rest);
     }
     found
@@ -147,17 +148,10 @@ fn above(roles: u64, sets: &[u64; 64], all: u64, r: usize) -> u64
     while rest != 0 {
         let s = sets::lowest_member(rest) as usize;
         let on = lies_below(roles, sets, r, s);
-        found = sets::union(found, sets::when(on, sets::single(s)));
+        found = sets::union(found, sets::when(on, sets::lowest_alone(rest)));
         rest = sets::without_lowest(rest);
     }
     found
-}
-
-// The roles above r.
-fn upper(roles: u64, sets: &[u64; 64], r: usize) -> u64
-    ensures { λ v. ⌜ v ≡ roles-above (drawn-from roles (now (sets .entry))) r ⌝ }
-{
-    above(roles, sets, senior_roles(roles), r)
 }
 
 // Whether the role r lies below s.
@@ -190,20 +184,6 @@ fn all_lower(roles: u64, sets: &[u64; 64], all: u64) -> u64
     found
 }
 
-// The roles above some member of `all`.
-fn all_upper(roles: u64, sets: &[u64; 64], all: u64) -> u64
-    ensures { λ v. ⌜ v ≡ gather role-count (λ r. member r all) (roles-above (drawn-from roles (now (sets .entry)))) ⌝ }
-{
-    let mut found: u64 = 0;
-    let mut rest = all;
-    while rest != 0 {
-        let r = sets::lowest_member(rest) as usize;
-        found = sets::union(found, upper(roles, sets, r));
-        rest = sets::without_lowest(rest);
-    }
-    found
-}
-
 // The immediate juniors of s: the roles below it that lie below none of these.
 pub fn juniors_of(roles: u64, sets: &[u64; 64], s: Role) -> u64
     ensures { λ v. ⌜ v ≡ juniors (drawn-from roles (now (sets .entry))) (s .0) ⌝ }
@@ -212,12 +192,12 @@ pub fn juniors_of(roles: u64, sets: &[u64; 64], s: Role) -> u64
     sets::difference(under, all_lower(roles, sets, under))
 }
 
-// The immediate seniors of r: the roles above it that lie above none of these.
+// The immediate seniors of r: the roles whose immediate juniors have it.
 pub fn seniors_of(roles: u64, sets: &[u64; 64], r: Role) -> u64
     ensures { λ v. ⌜ v ≡ seniors (drawn-from roles (now (sets .entry))) (r .0) ⌝ }
 {
-    let over = upper(roles, sets, r.0 as usize);
-    sets::difference(over, all_upper(roles, sets, over))
+    let joins = draw(roles, sets);
+    seniors_in(senior_roles(roles), &joins, r.0 as usize)
 }
 
 // The effective privileges of s.

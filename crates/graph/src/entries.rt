@@ -14,28 +14,15 @@ pub fn copied(table: &[u64; 64]) -> [u64; 64]
     *table
 }
 
-// Joins s to the entry of each member of into.
-pub fn put_all(table: &mut [u64; 64], into: u64, s: u64)
-    ensures { λ _. ⌜ now (table .exit) ≡ spec.table role-count (λ r. union (spec.at (now (table .entry)) r) (when (member r into) s)) ⌝ }
+// In the entry of each member of into, takes the members of out away and joins those of put.
+pub fn exchange_all(table: &mut [u64; 64], into: u64, out: u64, put: u64)
+    ensures { λ _. ⌜ now (table .exit) ≡ spec.table role-count (λ r. union (difference (spec.at (now (table .entry)) r) (when (member r into) out)) (when (member r into) put)) ⌝ }
 {
     *table = copied(table);
     let mut rest = into;
     while rest != 0 {
         let r = sets::lowest_member(rest) as usize;
-        table[r] = sets::union(table[r], s);
-        rest = sets::without_lowest(rest);
-    }
-}
-
-// Takes the members of s out of the entry of each member of from.
-pub fn take_all(table: &mut [u64; 64], from: u64, s: u64)
-    ensures { λ _. ⌜ now (table .exit) ≡ spec.table role-count (λ r. difference (spec.at (now (table .entry)) r) (when (member r from) s)) ⌝ }
-{
-    *table = copied(table);
-    let mut rest = from;
-    while rest != 0 {
-        let r = sets::lowest_member(rest) as usize;
-        table[r] = sets::difference(table[r], s);
+        table[r] = sets::union(sets::difference(table[r], out), put);
         rest = sets::without_lowest(rest);
     }
 }
@@ -50,7 +37,7 @@ pub fn seniors_in(present: u64, juniors: &[u64; 64], a: usize) -> u64
         let r = sets::lowest_member(rest) as usize;
         seniors = sets::union(
             seniors,
-            sets::when(sets::member(a, juniors[r]), sets::single(r)),
+            sets::when(sets::member(a, juniors[r]), sets::lowest_alone(rest)),
         );
         rest = sets::without_lowest(rest);
     }

@@ -7,12 +7,12 @@ use Prim.Native.Nat.{ℕ, _+_, _<_, _^_}
 use native.Mathlib.Nat.{lt-of-le-of-lt}
 use native.Mathlib.Omega.{arith}
 use lib.Bits.{bitAnd, and-le-l, xor-add-and}
-use lib.Dec.{T, T-not, not-T, eqb, eqb-refl, ltb, lt→ltb}
+use lib.Dec.{T, T-not, not-T, eqb, eqb-refl, ltb, ltb→lt, lt→ltb}
 use Rattle.sets.specs.Counting.{any, lowest}
-use Rattle.sets.specs.Sets.{member, single, union, intersection, difference, when, collect, gather, lowest-member, without-lowest}
+use Rattle.sets.specs.Sets.{member, single, union, intersection, difference, when, collect, gather, lowest-member, without-lowest, lowest-alone}
 use Rattle.sets.proofs.Tests.{both, join, either, or-left, or-right, same-test, decide, passes, fails, so, equal-test, test-equal}
 use Rattle.sets.proofs.Counting.{any-some, some-any, any-cong, lowest-passes, lowest-lt, lowest-first, lowest-is, lowest-none}
-use Rattle.sets.proofs.Laws.{member-empty, member-union, member-difference, member-single, member-when, member-collect, member-lt, extensional, collect-lt, gather-lt, intersection-lt, difference-lt}
+use Rattle.sets.proofs.Laws.{member-empty, member-union, member-difference, member-single, member-when, member-collect, member-lt, extensional, equal-members, collect-lt, gather-lt, intersection-lt, difference-lt}
 use Rattle.sets.proofs.Members.{no-members, in-empty, in-union, union-left, union-right, in-intersection, intersection-in, single-in, in-gather, gather-in, same-members}
 
 module _ (w rest : ℕ) (fits : rest < 2 ^ w) (some : rest ≢ 0) where
@@ -39,6 +39,39 @@ lowest-of w rest n l m = lowest-first w (λ n. member n rest) n l m
 pub member-next : (w s n : ℕ) → member n (without-lowest w s) ≡ member n s && not (eqb n (lowest-member w s))
 unfolding without-lowest
 member-next w s n = member-difference n s (single (lowest-member w s)) ∙ ap (λ (b : Bool). member n s && not b) (member-single n (lowest-member w s))
+
+-- What a turn takes out is the lowest member alone.
+pub lowest-taken : (w s : ℕ) → s < 2 ^ w → difference s (without-lowest w s) ≡ lowest-alone w s
+unfolding lowest-alone lowest-member
+lowest-taken w s h =
+    equal-members (difference s (without-lowest w s)) (when (ltb l w) (single l)) (λ n.
+    member-difference n s (without-lowest w s)
+    ∙ ap (λ (b : Bool). member n s && not b) (member-next w s n)
+    ∙ taken (member n s) (eqb n l) (ltb l w) (below n) (held n)
+    ∙ sym (member-when n (ltb l w) (single l) ∙ ap (λ (b : Bool). ltb l w && b) (member-single n l)))
+  where
+    l : ℕ
+    l = lowest-member w s
+
+    below : (n : ℕ) → T (member n s) → T (eqb n l) → T (ltb l w)
+    below n m e = lt→ltb l w (subst (λ (i : ℕ). i < w) (test-equal e) (member-lt w n s h m))
+
+    held : (n : ℕ) → T (ltb l w) → T (eqb n l) → T (member n s)
+    held n b e =
+        elim (decide (any w (λ n. member n s))) [
+          | inl t ↦ subst (λ (i : ℕ). T (member i s)) (sym (test-equal e)) (lowest-passes w (λ n. member n s) t)
+          | inr f ↦ absurd (let z = lowest-none w (λ n. member n s) f in let g = ltb→lt l w b in omega arith)
+        ]
+
+    taken : (m e b : Bool) → (T m → T e → T b) → (T b → T e → T m) → m && not (m && not e) ≡ b && e
+    taken true true true f g = refl
+    taken true true false f g = absurd (f tt tt)
+    taken true false true f g = refl
+    taken true false false f g = refl
+    taken false true true f g = absurd (g tt tt)
+    taken false true false f g = refl
+    taken false false true f g = refl
+    taken false false false f g = refl
 
 -- A number is a member of `all` that was visited: it is not in what is left.
 unfoldable pub visited : ℕ → ℕ → ℕ → Bool

@@ -148,6 +148,13 @@ pub fn without_lowest(s: u64) -> u64
     if s == 0 { 0 } else { s & (s - 1) }
 }
 
+// The set whose only member is the lowest one of s; of the empty set the empty set.
+pub fn lowest_alone(s: u64) -> u64
+    ensures { λ r. ⌜ r ≡ spec.lowest-alone 64 s ⌝ }
+{
+    difference(s, without_lowest(s))
+}
+
 // s where the test passes, and the empty set where it does not.
 pub fn when(c: bool, s: u64) -> u64
     ensures { λ r. ⌜ r ≡ spec.when c s ⌝ }

@@ -42,8 +42,8 @@ array-write-directs c =
 single-requires : tie.Need-single-requires
 single-requires c κs = tt
 
-put-all-requires : tie.Need-put-all-requires
-put-all-requires c κs = tt
+exchange-all-requires : tie.Need-exchange-all-requires
+exchange-all-requires c κs = tt
 
 mul-union-2 : tie.Need-mul-union-2
 mul-union-2 c = search needs
@@ -74,14 +74,14 @@ closed-requires : tie.Need-closed-requires
 unfolding at
 closed-requires c κs =
     may-close (place-carried (c .before .before .before .before .before .before .before .before .before .before .before .before .before .args .roles) (search needs) (c .before .before .before .before .before .before .before .before .before .before .before .before .before .args .sets .now) (c .before .before .before .before .before .before .before .before .before .before .before .before .before .args .a .0) (c .before .before .before .before .before .before .before .before .before .before .before .before .before .args .own) (c .before .before .before .before .before .before .before .before .before .before .before .before .before .args .juniors) (c .before .before .before .before .before .before .before .before .before .before .before .before .before .args .seniors) (search needs) (search needs) (search needs) (c .before .before .before .before .before .before .before .before .before .before .before .before .before .pre)) (c .before .union3 .ensures ∙ ap (union (c .before .before .before .before .before .before .before .before .before .before .before .before .before .args .roles)) (known-single (c .before .before .before .before .before .before .before .before .before .before .before .before .before .args .a .0) (place-lt (c .before .before .before .before .before .before .before .before .before .before .before .before .before .args .roles) (search needs) (c .before .before .before .before .before .before .before .before .before .before .before .before .before .args .sets .now) (c .before .before .before .before .before .before .before .before .before .before .before .before .before .args .a .0) (c .before .before .before .before .before .before .before .before .before .before .before .before .before .args .own) (c .before .before .before .before .before .before .before .before .before .before .before .before .before .args .juniors) (c .before .before .before .before .before .before .before .before .before .before .before .before .before .args .seniors) (c .before .before .before .before .before .before .before .before .before .before .before .before .before .pre)) (c .before .before .single2 .ensures)))
-    (stored-union (c .before .before .before .before .before .before .before .before .before .before .before .before .before .args .a .0) (joined-all (c .before .before .before .before .before .before .before .before .before .before .before .draw .ensures) refl (known-single (c .before .before .before .before .before .before .before .before .before .before .before .before .before .args .a .0) (place-lt (c .before .before .before .before .before .before .before .before .before .before .before .before .before .args .roles) (search needs) (c .before .before .before .before .before .before .before .before .before .before .before .before .before .args .sets .now) (c .before .before .before .before .before .before .before .before .before .before .before .before .before .args .a .0) (c .before .before .before .before .before .before .before .before .before .before .before .before .before .args .own) (c .before .before .before .before .before .before .before .before .before .before .before .before .before .args .juniors) (c .before .before .before .before .before .before .before .before .before .before .before .before .before .args .seniors) (c .before .before .before .before .before .before .before .before .before .before .before .before .before .pre)) (c .before .before .before .before .before .single .ensures)) (c .before .before .before .before .put-all .ensures)) (c .before .before .before .union2 .ensures) refl)
+    (stored-union (c .before .before .before .before .before .before .before .before .before .before .before .before .before .args .a .0) (joined-all (c .before .before .before .before .before .before .before .before .before .before .before .draw .ensures) refl (known-single (c .before .before .before .before .before .before .before .before .before .before .before .before .before .args .a .0) (place-lt (c .before .before .before .before .before .before .before .before .before .before .before .before .before .args .roles) (search needs) (c .before .before .before .before .before .before .before .before .before .before .before .before .before .args .sets .now) (c .before .before .before .before .before .before .before .before .before .before .before .before .before .args .a .0) (c .before .before .before .before .before .before .before .before .before .before .before .before .before .args .own) (c .before .before .before .before .before .before .before .before .before .before .before .before .before .args .juniors) (c .before .before .before .before .before .before .before .before .before .before .before .before .before .args .seniors) (c .before .before .before .before .before .before .before .before .before .before .before .before .before .pre)) (c .before .before .before .before .before .single .ensures)) (c .before .before .before .before .exchange-all .ensures)) (c .before .before .before .union2 .ensures) refl)
 
 returns : tie.Need-returns
 unfolding at
 returns c =
     closes-to (place-carried (c .before .before .before .before .before .before .before .before .before .before .before .before .before .before .args .roles) (search needs) (c .before .before .before .before .before .before .before .before .before .before .before .before .before .before .args .sets .now) (c .before .before .before .before .before .before .before .before .before .before .before .before .before .before .args .a .0) (c .before .before .before .before .before .before .before .before .before .before .before .before .before .before .args .own) (c .before .before .before .before .before .before .before .before .before .before .before .before .before .before .args .juniors) (c .before .before .before .before .before .before .before .before .before .before .before .before .before .before .args .seniors) (search needs) (search needs) (search needs) (c .before .before .before .before .before .before .before .before .before .before .before .before .before .before .pre)) (c .before .before .union3 .ensures ∙ ap (union (c .before .before .before .before .before .before .before .before .before .before .before .before .before .before .args .roles)) (known-single (c .before .before .before .before .before .before .before .before .before .before .before .before .before .before .args .a .0) (place-lt (c .before .before .before .before .before .before .before .before .before .before .before .before .before .before .args .roles) (search needs) (c .before .before .before .before .before .before .before .before .before .before .before .before .before .before .args .sets .now) (c .before .before .before .before .before .before .before .before .before .before .before .before .before .before .args .a .0) (c .before .before .before .before .before .before .before .before .before .before .before .before .before .before .args .own) (c .before .before .before .before .before .before .before .before .before .before .before .before .before .before .args .juniors) (c .before .before .before .before .before .before .before .before .before .before .before .before .before .before .args .seniors) (c .before .before .before .before .before .before .before .before .before .before .before .before .before .before .pre)) (c .before .before .before .single2 .ensures)))
     (stored-union (c .before .before .before .before .before .before .before .before .before .before .before .before .before .before .args .a .0) (read-directs (c .before .before .before .before .before .before .before .before .before .before .before .before .before .before .args .roles) (c .before .before .before .before .before .before .before .before .before .before .before .before .before .before .args .sets .now) (c .before .before .before .before .before .before .before .before .before .before .before .senior-roles .ensures) (c .before .before .before .before .before .before .before .before .before .before .before .before .draw .ensures) (c .before .before .before .before .before .before .before .before .before .direct-sets .ensures)) (c .before .before .before .before .before .before .before .before .union .ensures) refl)
-    (stored-union (c .before .before .before .before .before .before .before .before .before .before .before .before .before .before .args .a .0) (joined-all (c .before .before .before .before .before .before .before .before .before .before .before .before .draw .ensures) refl (known-single (c .before .before .before .before .before .before .before .before .before .before .before .before .before .before .args .a .0) (place-lt (c .before .before .before .before .before .before .before .before .before .before .before .before .before .before .args .roles) (search needs) (c .before .before .before .before .before .before .before .before .before .before .before .before .before .before .args .sets .now) (c .before .before .before .before .before .before .before .before .before .before .before .before .before .before .args .a .0) (c .before .before .before .before .before .before .before .before .before .before .before .before .before .before .args .own) (c .before .before .before .before .before .before .before .before .before .before .before .before .before .before .args .juniors) (c .before .before .before .before .before .before .before .before .before .before .before .before .before .before .args .seniors) (c .before .before .before .before .before .before .before .before .before .before .before .before .before .before .pre)) (c .before .before .before .before .before .before .single .ensures)) (c .before .before .before .before .before .put-all .ensures)) (c .before .before .before .before .union2 .ensures) refl) (c .closed .ensures)
+    (stored-union (c .before .before .before .before .before .before .before .before .before .before .before .before .before .before .args .a .0) (joined-all (c .before .before .before .before .before .before .before .before .before .before .before .before .draw .ensures) refl (known-single (c .before .before .before .before .before .before .before .before .before .before .before .before .before .before .args .a .0) (place-lt (c .before .before .before .before .before .before .before .before .before .before .before .before .before .before .args .roles) (search needs) (c .before .before .before .before .before .before .before .before .before .before .before .before .before .before .args .sets .now) (c .before .before .before .before .before .before .before .before .before .before .before .before .before .before .args .a .0) (c .before .before .before .before .before .before .before .before .before .before .before .before .before .before .args .own) (c .before .before .before .before .before .before .before .before .before .before .before .before .before .before .args .juniors) (c .before .before .before .before .before .before .before .before .before .before .before .before .before .before .args .seniors) (c .before .before .before .before .before .before .before .before .before .before .before .before .before .before .pre)) (c .before .before .before .before .before .before .single .ensures)) (c .before .before .before .before .before .exchange-all .ensures)) (c .before .before .before .before .union2 .ensures) refl) (c .closed .ensures)
 
 pub placed-spec : {M : Type 1} → statement M
 placed-spec =
@@ -97,7 +97,7 @@ placed-spec =
     mul-directs
     array-write-directs
     single-requires
-    put-all-requires
+    exchange-all-requires
     mul-union-2
     array-read-union-2
     union-requires-2

@@ -8,7 +8,7 @@ use lib.ListN.{set}
 use borrow.Author.Needs.{needs}
 use Rattle.sets.specs.Sets.{difference, when}
 use Rattle.graph.specs.Tables.{at}
-use Rattle.graph.proofs.Carrying.{remove-lt, remove-carried, may-close, closes-to, joined-all, taken-all, found-seniors, read-directs, known-single}
+use Rattle.graph.proofs.Carrying.{remove-lt, remove-carried, may-close, closes-to, exchanged-all, joined-all, found-seniors, read-directs, known-single}
 use Rattle.graph.proofs.changing.removed.Statement.{statement}
 use Rattle.graph.proofs.changing.removed.Tie as tie
 
@@ -33,13 +33,14 @@ mul-when c = search needs
 array-read-when : tie.Need-array-read-when
 unfolding at
 array-read-when c =
-    remove-lt (c .before .before .before .before .before .before .before .args .roles) (search needs) (c .before .before .before .before .before .before .before .args .sets .now) (c .before .before .before .before .before .before .before .args .a .0) (c .before .before .before .before .before .before .before .args .b) (c .before .before .before .before .before .before .before .pre)
+    let p = c .before .before .before .before .before .before .before in
+    remove-lt (p .args .roles) (search needs) (p .args .sets .now) (p .args .a .0) (p .args .b) (p .pre)
 
 when-requires : tie.Need-when-requires
 when-requires c κs = tt
 
-put-all-requires : tie.Need-put-all-requires
-put-all-requires c κs = tt
+exchange-all-requires : tie.Need-exchange-all-requires
+exchange-all-requires c κs = tt
 
 mul-directs : tie.Need-mul-directs
 mul-directs c = search needs
@@ -47,7 +48,8 @@ mul-directs c = search needs
 array-write-directs : tie.Need-array-write-directs
 unfolding at
 array-write-directs c =
-    remove-lt (c .before .before .before .before .before .before .before .before .before .before .args .roles) (search needs) (c .before .before .before .before .before .before .before .before .before .before .args .sets .now) (c .before .before .before .before .before .before .before .before .before .before .args .a .0) (c .before .before .before .before .before .before .before .before .before .before .args .b) (c .before .before .before .before .before .before .before .before .before .before .pre)
+    let p = c .before .before .before .before .before .before .before .before .before .before in
+    remove-lt (p .args .roles) (search needs) (p .args .sets .now) (p .args .a .0) (p .args .b) (p .pre)
 
 mul-juniors : tie.Need-mul-juniors
 mul-juniors c = search needs
@@ -55,16 +57,14 @@ mul-juniors c = search needs
 array-read-juniors : tie.Need-array-read-juniors
 unfolding at
 array-read-juniors c =
-    remove-lt (c .before .before .before .before .before .before .before .before .before .before .args .roles) (search needs) (c .before .before .before .before .before .before .before .before .before .before .args .sets .now) (c .before .before .before .before .before .before .before .before .before .before .args .a .0) (c .before .before .before .before .before .before .before .before .before .before .args .b) (c .before .before .before .before .before .before .before .before .before .before .pre)
-
-put-all-requires-2 : tie.Need-put-all-requires-2
-put-all-requires-2 c κs = tt
+    let p = c .before .before .before .before .before .before .before .before .before .before in
+    remove-lt (p .args .roles) (search needs) (p .args .sets .now) (p .args .a .0) (p .args .b) (p .pre)
 
 single-requires : tie.Need-single-requires
 single-requires c κs = tt
 
-take-all-requires : tie.Need-take-all-requires
-take-all-requires c κs = tt
+exchange-all-requires-2 : tie.Need-exchange-all-requires-2
+exchange-all-requires-2 c κs = tt
 
 mul-joins : tie.Need-mul-joins
 mul-joins c = search needs
@@ -72,10 +72,8 @@ mul-joins c = search needs
 array-write-joins : tie.Need-array-write-joins
 unfolding at
 array-write-joins c =
-    remove-lt (c .before .before .before .before .before .before .before .before .before .before .before .before .before .before .before .args .roles) (search needs) (c .before .before .before .before .before .before .before .before .before .before .before .before .before .before .before .args .sets .now) (c .before .before .before .before .before .before .before .before .before .before .before .before .before .before .before .args .a .0) (c .before .before .before .before .before .before .before .before .before .before .before .before .before .before .before .args .b) (c .before .before .before .before .before .before .before .before .before .before .before .before .before .before .before .pre)
-
-single-requires-2 : tie.Need-single-requires-2
-single-requires-2 c κs = tt
+    let p = c .before .before .before .before .before .before .before .before .before .before .before .before .before in
+    remove-lt (p .args .roles) (search needs) (p .args .sets .now) (p .args .a .0) (p .args .b) (p .pre)
 
 difference-requires : tie.Need-difference-requires
 difference-requires c κs = tt
@@ -83,15 +81,39 @@ difference-requires c κs = tt
 closed-requires : tie.Need-closed-requires
 unfolding at
 closed-requires c κs =
-    may-close (remove-carried (c .before .before .before .before .before .before .before .before .before .before .before .before .before .before .before .before .before .before .args .roles) (search needs) (c .before .before .before .before .before .before .before .before .before .before .before .before .before .before .before .before .before .before .args .sets .now) (c .before .before .before .before .before .before .before .before .before .before .before .before .before .before .before .before .before .before .args .a .0) (c .before .before .before .before .before .before .before .before .before .before .before .before .before .before .before .before .before .before .args .b) (c .before .before .before .before .before .before .before .before .before .before .before .before .before .before .before .before .before .before .pre)) (c .before .difference .ensures ∙ ap (difference (c .before .before .before .before .before .before .before .before .before .before .before .before .before .before .before .before .before .before .args .roles)) (known-single (c .before .before .before .before .before .before .before .before .before .before .before .before .before .before .before .before .before .before .args .a .0) (remove-lt (c .before .before .before .before .before .before .before .before .before .before .before .before .before .before .before .before .before .before .args .roles) (search needs) (c .before .before .before .before .before .before .before .before .before .before .before .before .before .before .before .before .before .before .args .sets .now) (c .before .before .before .before .before .before .before .before .before .before .before .before .before .before .before .before .before .before .args .a .0) (c .before .before .before .before .before .before .before .before .before .before .before .before .before .before .before .before .before .before .args .b) (c .before .before .before .before .before .before .before .before .before .before .before .before .before .before .before .before .before .before .pre)) (c .before .before .single2 .ensures)))
-    (ap (λ (x : List ℕ). set x (c .before .before .before .before .before .before .before .before .before .before .before .before .before .before .before .before .before .before .args .a .0) 0) (taken-all (joined-all (c .before .before .before .before .before .before .before .before .before .before .before .before .before .before .before .draw .ensures) (found-seniors (c .before .before .before .before .before .before .before .before .before .before .before .before .before .before .before .before .before .before .args .a .0) (c .before .before .before .before .before .before .before .before .before .before .before .before .before .before .before .before .senior-roles .ensures) (c .before .before .before .before .before .before .before .before .before .before .before .before .before .before .before .draw .ensures) (c .before .before .before .before .before .before .before .before .before .before .before .seniors-in .ensures)) (ap (λ (x : List ℕ). at x (c .before .before .before .before .before .before .before .before .before .before .before .before .before .before .before .before .before .before .args .a .0)) (c .before .before .before .before .before .before .before .before .before .before .before .before .before .before .before .draw .ensures)) (c .before .before .before .before .before .before .put-all2 .ensures)) (found-seniors (c .before .before .before .before .before .before .before .before .before .before .before .before .before .before .before .before .before .before .args .a .0) (c .before .before .before .before .before .before .before .before .before .before .before .before .before .before .before .before .senior-roles .ensures) (c .before .before .before .before .before .before .before .before .before .before .before .before .before .before .before .draw .ensures) (c .before .before .before .before .before .before .before .before .before .before .before .seniors-in .ensures)) (known-single (c .before .before .before .before .before .before .before .before .before .before .before .before .before .before .before .before .before .before .args .a .0) (remove-lt (c .before .before .before .before .before .before .before .before .before .before .before .before .before .before .before .before .before .before .args .roles) (search needs) (c .before .before .before .before .before .before .before .before .before .before .before .before .before .before .before .before .before .before .args .sets .now) (c .before .before .before .before .before .before .before .before .before .before .before .before .before .before .before .before .before .before .args .a .0) (c .before .before .before .before .before .before .before .before .before .before .before .before .before .before .before .before .before .before .args .b) (c .before .before .before .before .before .before .before .before .before .before .before .before .before .before .before .before .before .before .pre)) (c .before .before .before .before .single .ensures)) (c .before .before .before .take-all .ensures)))
+    let x = c .before .before in
+    let s = x .before .before in
+    let w = s .before .before .before in
+    let n = w .before in
+    let d = n .before .before .before .before in
+    let p = d .before .before .before in
+    let a = p .args .a .0 in
+    let lt = remove-lt (p .args .roles) (search needs) (p .args .sets .now) a (p .args .b) (p .pre) in
+    let own = known-single a lt (s .single .ensures) in
+    let seniors = found-seniors a (d .before .senior-roles .ensures) (d .draw .ensures) (n .seniors-in .ensures) in
+    may-close (remove-carried (p .args .roles) (search needs) (p .args .sets .now) a (p .args .b) (p .pre))
+    (c .before .difference .ensures ∙ ap (difference (p .args .roles)) own)
+    (ap (λ (t : List ℕ). set t a 0) (exchanged-all (d .draw .ensures) seniors own (ap (λ (t : List ℕ). at t a) (d .draw .ensures)) (x .exchange-all2 .ensures)))
 
 returns : tie.Need-returns
 unfolding at
 returns c =
-    closes-to (remove-carried (c .before .before .before .before .before .before .before .before .before .before .before .before .before .before .before .before .before .before .before .args .roles) (search needs) (c .before .before .before .before .before .before .before .before .before .before .before .before .before .before .before .before .before .before .before .args .sets .now) (c .before .before .before .before .before .before .before .before .before .before .before .before .before .before .before .before .before .before .before .args .a .0) (c .before .before .before .before .before .before .before .before .before .before .before .before .before .before .before .before .before .before .before .args .b) (c .before .before .before .before .before .before .before .before .before .before .before .before .before .before .before .before .before .before .before .pre)) (c .before .before .difference .ensures ∙ ap (difference (c .before .before .before .before .before .before .before .before .before .before .before .before .before .before .before .before .before .before .before .args .roles)) (known-single (c .before .before .before .before .before .before .before .before .before .before .before .before .before .before .before .before .before .before .before .args .a .0) (remove-lt (c .before .before .before .before .before .before .before .before .before .before .before .before .before .before .before .before .before .before .before .args .roles) (search needs) (c .before .before .before .before .before .before .before .before .before .before .before .before .before .before .before .before .before .before .before .args .sets .now) (c .before .before .before .before .before .before .before .before .before .before .before .before .before .before .before .before .before .before .before .args .a .0) (c .before .before .before .before .before .before .before .before .before .before .before .before .before .before .before .before .before .before .before .args .b) (c .before .before .before .before .before .before .before .before .before .before .before .before .before .before .before .before .before .before .before .pre)) (c .before .before .before .single2 .ensures)))
-    (ap (λ (x : List ℕ). set x (c .before .before .before .before .before .before .before .before .before .before .before .before .before .before .before .before .before .before .before .args .a .0) 0) (joined-all (read-directs (c .before .before .before .before .before .before .before .before .before .before .before .before .before .before .before .before .before .before .before .args .roles) (c .before .before .before .before .before .before .before .before .before .before .before .before .before .before .before .before .before .before .before .args .sets .now) (c .before .before .before .before .before .before .before .before .before .before .before .before .before .before .before .before .before .senior-roles .ensures) (c .before .before .before .before .before .before .before .before .before .before .before .before .before .before .before .before .draw .ensures) (c .before .before .before .before .before .before .before .before .before .before .before .before .before .before .direct-sets .ensures)) (found-seniors (c .before .before .before .before .before .before .before .before .before .before .before .before .before .before .before .before .before .before .before .args .a .0) (c .before .before .before .before .before .before .before .before .before .before .before .before .before .before .before .before .before .senior-roles .ensures) (c .before .before .before .before .before .before .before .before .before .before .before .before .before .before .before .before .draw .ensures) (c .before .before .before .before .before .before .before .before .before .before .before .before .seniors-in .ensures)) (c .before .before .before .before .before .before .before .before .before .before .before .when .ensures ∙ ap (λ (x : List ℕ). when (eqb (c .before .before .before .before .before .before .before .before .before .before .before .before .before .before .before .before .before .before .before .args .b) 1) (at x (c .before .before .before .before .before .before .before .before .before .before .before .before .before .before .before .before .before .before .before .args .a .0))) (read-directs (c .before .before .before .before .before .before .before .before .before .before .before .before .before .before .before .before .before .before .before .args .roles) (c .before .before .before .before .before .before .before .before .before .before .before .before .before .before .before .before .before .before .before .args .sets .now) (c .before .before .before .before .before .before .before .before .before .before .before .before .before .before .before .before .before .senior-roles .ensures) (c .before .before .before .before .before .before .before .before .before .before .before .before .before .before .before .before .draw .ensures) (c .before .before .before .before .before .before .before .before .before .before .before .before .before .before .direct-sets .ensures))) (c .before .before .before .before .before .before .before .before .before .put-all .ensures)))
-    (ap (λ (x : List ℕ). set x (c .before .before .before .before .before .before .before .before .before .before .before .before .before .before .before .before .before .before .before .args .a .0) 0) (taken-all (joined-all (c .before .before .before .before .before .before .before .before .before .before .before .before .before .before .before .before .draw .ensures) (found-seniors (c .before .before .before .before .before .before .before .before .before .before .before .before .before .before .before .before .before .before .before .args .a .0) (c .before .before .before .before .before .before .before .before .before .before .before .before .before .before .before .before .before .senior-roles .ensures) (c .before .before .before .before .before .before .before .before .before .before .before .before .before .before .before .before .draw .ensures) (c .before .before .before .before .before .before .before .before .before .before .before .before .seniors-in .ensures)) (ap (λ (x : List ℕ). at x (c .before .before .before .before .before .before .before .before .before .before .before .before .before .before .before .before .before .before .before .args .a .0)) (c .before .before .before .before .before .before .before .before .before .before .before .before .before .before .before .before .draw .ensures)) (c .before .before .before .before .before .before .before .put-all2 .ensures)) (found-seniors (c .before .before .before .before .before .before .before .before .before .before .before .before .before .before .before .before .before .before .before .args .a .0) (c .before .before .before .before .before .before .before .before .before .before .before .before .before .before .before .before .before .senior-roles .ensures) (c .before .before .before .before .before .before .before .before .before .before .before .before .before .before .before .before .draw .ensures) (c .before .before .before .before .before .before .before .before .before .before .before .before .seniors-in .ensures)) (known-single (c .before .before .before .before .before .before .before .before .before .before .before .before .before .before .before .before .before .before .before .args .a .0) (remove-lt (c .before .before .before .before .before .before .before .before .before .before .before .before .before .before .before .before .before .before .before .args .roles) (search needs) (c .before .before .before .before .before .before .before .before .before .before .before .before .before .before .before .before .before .before .before .args .sets .now) (c .before .before .before .before .before .before .before .before .before .before .before .before .before .before .before .before .before .before .before .args .a .0) (c .before .before .before .before .before .before .before .before .before .before .before .before .before .before .before .before .before .before .before .args .b) (c .before .before .before .before .before .before .before .before .before .before .before .before .before .before .before .before .before .before .before .pre)) (c .before .before .before .before .before .single .ensures)) (c .before .before .before .before .take-all .ensures))) (c .closed .ensures)
+    let x = c .before .before .before in
+    let s = x .before .before in
+    let w = s .before .before .before in
+    let n = w .before in
+    let d = n .before .before .before .before in
+    let p = d .before .before .before in
+    let a = p .args .a .0 in
+    let lt = remove-lt (p .args .roles) (search needs) (p .args .sets .now) a (p .args .b) (p .pre) in
+    let own = known-single a lt (s .single .ensures) in
+    let seniors = found-seniors a (d .before .senior-roles .ensures) (d .draw .ensures) (n .seniors-in .ensures) in
+    let directs = read-directs (p .args .roles) (p .args .sets .now) (d .before .senior-roles .ensures) (d .draw .ensures) (n .before .before .direct-sets .ensures) in
+    closes-to (remove-carried (p .args .roles) (search needs) (p .args .sets .now) a (p .args .b) (p .pre))
+    (c .before .before .difference .ensures ∙ ap (difference (p .args .roles)) own)
+    (ap (λ (t : List ℕ). set t a 0) (joined-all directs seniors (w .when .ensures ∙ ap (λ (t : List ℕ). when (eqb (p .args .b) 1) (at t a)) directs) (s .before .exchange-all .ensures)))
+    (ap (λ (t : List ℕ). set t a 0) (exchanged-all (d .draw .ensures) seniors own (ap (λ (t : List ℕ). at t a) (d .draw .ensures)) (x .exchange-all2 .ensures)))
+    (c .closed .ensures)
 
 pub removed-spec : {M : Type 1} → statement M
 removed-spec =
@@ -105,17 +127,15 @@ removed-spec =
     mul-when
     array-read-when
     when-requires
-    put-all-requires
+    exchange-all-requires
     mul-directs
     array-write-directs
     mul-juniors
     array-read-juniors
-    put-all-requires-2
     single-requires
-    take-all-requires
+    exchange-all-requires-2
     mul-joins
     array-write-joins
-    single-requires-2
     difference-requires
     closed-requires
     returns)

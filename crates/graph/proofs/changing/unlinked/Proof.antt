@@ -57,8 +57,8 @@ union-requires c κs = tt
 single-requires-2 : tie.Need-single-requires-2
 single-requires-2 c κs = tt
 
-put-all-requires : tie.Need-put-all-requires
-put-all-requires c κs = tt
+exchange-all-requires : tie.Need-exchange-all-requires
+exchange-all-requires c κs = tt
 
 mul-joins : tie.Need-mul-joins
 mul-joins c = search needs
@@ -72,14 +72,14 @@ closed-requires : tie.Need-closed-requires
 unfolding at
 closed-requires c κs =
     may-close (unlink-carried (c .before .before .before .before .before .before .before .before .before .before .before .before .before .before .before .args .roles) (search needs) (c .before .before .before .before .before .before .before .before .before .before .before .before .before .before .before .args .sets .now) (c .before .before .before .before .before .before .before .before .before .before .before .before .before .before .before .args .a .0) (c .before .before .before .before .before .before .before .before .before .before .before .before .before .before .before .args .b .0) (c .before .before .before .before .before .before .before .before .before .before .before .before .before .before .before .pre)) refl
-    (ap₂ (λ (x : List ℕ) (y : ℕ). set x (c .before .before .before .before .before .before .before .before .before .before .before .before .before .before .before .args .b .0) y) (joined-all (c .before .before .before .before .before .before .before .before .before .before .before .draw .ensures) (found-seniors (c .before .before .before .before .before .before .before .before .before .before .before .before .before .before .before .args .b .0) (c .before .before .before .before .before .before .before .before .before .before .before .before .senior-roles .ensures) (c .before .before .before .before .before .before .before .before .before .before .before .draw .ensures) (c .before .before .before .before .before .before .before .seniors-in .ensures)) (known-single (c .before .before .before .before .before .before .before .before .before .before .before .before .before .before .before .args .a .0) (unlink-lt (c .before .before .before .before .before .before .before .before .before .before .before .before .before .before .before .args .roles) (search needs) (c .before .before .before .before .before .before .before .before .before .before .before .before .before .before .before .args .sets .now) (c .before .before .before .before .before .before .before .before .before .before .before .before .before .before .before .args .a .0) (c .before .before .before .before .before .before .before .before .before .before .before .before .before .before .before .args .b .0) (c .before .before .before .before .before .before .before .before .before .before .before .before .before .before .before .pre) .0) (c .before .before .single2 .ensures)) (c .before .put-all .ensures))
+    (ap₂ (λ (x : List ℕ) (y : ℕ). set x (c .before .before .before .before .before .before .before .before .before .before .before .before .before .before .before .args .b .0) y) (joined-all (c .before .before .before .before .before .before .before .before .before .before .before .draw .ensures) (found-seniors (c .before .before .before .before .before .before .before .before .before .before .before .before .before .before .before .args .b .0) (c .before .before .before .before .before .before .before .before .before .before .before .before .senior-roles .ensures) (c .before .before .before .before .before .before .before .before .before .before .before .draw .ensures) (c .before .before .before .before .before .before .before .seniors-in .ensures)) (known-single (c .before .before .before .before .before .before .before .before .before .before .before .before .before .before .before .args .a .0) (unlink-lt (c .before .before .before .before .before .before .before .before .before .before .before .before .before .before .before .args .roles) (search needs) (c .before .before .before .before .before .before .before .before .before .before .before .before .before .before .before .args .sets .now) (c .before .before .before .before .before .before .before .before .before .before .before .before .before .before .before .args .a .0) (c .before .before .before .before .before .before .before .before .before .before .before .before .before .before .before .args .b .0) (c .before .before .before .before .before .before .before .before .before .before .before .before .before .before .before .pre) .0) (c .before .before .single2 .ensures)) (c .before .exchange-all .ensures))
     (c .before .before .before .before .union .ensures ∙ ap₂ union (c .before .before .before .before .before .difference .ensures ∙ ap₂ (λ (x : List ℕ) (s : ℕ). difference (at x (c .before .before .before .before .before .before .before .before .before .before .before .before .before .before .before .args .b .0)) s) (c .before .before .before .before .before .before .before .before .before .before .before .draw .ensures) (known-single (c .before .before .before .before .before .before .before .before .before .before .before .before .before .before .before .args .a .0) (unlink-lt (c .before .before .before .before .before .before .before .before .before .before .before .before .before .before .before .args .roles) (search needs) (c .before .before .before .before .before .before .before .before .before .before .before .before .before .before .before .args .sets .now) (c .before .before .before .before .before .before .before .before .before .before .before .before .before .before .before .args .a .0) (c .before .before .before .before .before .before .before .before .before .before .before .before .before .before .before .args .b .0) (c .before .before .before .before .before .before .before .before .before .before .before .before .before .before .before .pre) .0) (c .before .before .before .before .before .before .single .ensures))) (ap (λ (x : List ℕ). at x (c .before .before .before .before .before .before .before .before .before .before .before .before .before .before .before .args .a .0)) (c .before .before .before .before .before .before .before .before .before .before .before .draw .ensures))))
 
 returns : tie.Need-returns
 unfolding at
 returns c =
     closes-to (unlink-carried (c .before .before .before .before .before .before .before .before .before .before .before .before .before .before .before .before .args .roles) (search needs) (c .before .before .before .before .before .before .before .before .before .before .before .before .before .before .before .before .args .sets .now) (c .before .before .before .before .before .before .before .before .before .before .before .before .before .before .before .before .args .a .0) (c .before .before .before .before .before .before .before .before .before .before .before .before .before .before .before .before .args .b .0) (c .before .before .before .before .before .before .before .before .before .before .before .before .before .before .before .before .pre)) refl (read-directs (c .before .before .before .before .before .before .before .before .before .before .before .before .before .before .before .before .args .roles) (c .before .before .before .before .before .before .before .before .before .before .before .before .before .before .before .before .args .sets .now) (c .before .before .before .before .before .before .before .before .before .before .before .before .before .senior-roles .ensures) (c .before .before .before .before .before .before .before .before .before .before .before .before .draw .ensures) (c .before .before .before .before .before .before .before .before .before .before .direct-sets .ensures))
-    (ap₂ (λ (x : List ℕ) (y : ℕ). set x (c .before .before .before .before .before .before .before .before .before .before .before .before .before .before .before .before .args .b .0) y) (joined-all (c .before .before .before .before .before .before .before .before .before .before .before .before .draw .ensures) (found-seniors (c .before .before .before .before .before .before .before .before .before .before .before .before .before .before .before .before .args .b .0) (c .before .before .before .before .before .before .before .before .before .before .before .before .before .senior-roles .ensures) (c .before .before .before .before .before .before .before .before .before .before .before .before .draw .ensures) (c .before .before .before .before .before .before .before .before .seniors-in .ensures)) (known-single (c .before .before .before .before .before .before .before .before .before .before .before .before .before .before .before .before .args .a .0) (unlink-lt (c .before .before .before .before .before .before .before .before .before .before .before .before .before .before .before .before .args .roles) (search needs) (c .before .before .before .before .before .before .before .before .before .before .before .before .before .before .before .before .args .sets .now) (c .before .before .before .before .before .before .before .before .before .before .before .before .before .before .before .before .args .a .0) (c .before .before .before .before .before .before .before .before .before .before .before .before .before .before .before .before .args .b .0) (c .before .before .before .before .before .before .before .before .before .before .before .before .before .before .before .before .pre) .0) (c .before .before .before .single2 .ensures)) (c .before .before .put-all .ensures))
+    (ap₂ (λ (x : List ℕ) (y : ℕ). set x (c .before .before .before .before .before .before .before .before .before .before .before .before .before .before .before .before .args .b .0) y) (joined-all (c .before .before .before .before .before .before .before .before .before .before .before .before .draw .ensures) (found-seniors (c .before .before .before .before .before .before .before .before .before .before .before .before .before .before .before .before .args .b .0) (c .before .before .before .before .before .before .before .before .before .before .before .before .before .senior-roles .ensures) (c .before .before .before .before .before .before .before .before .before .before .before .before .draw .ensures) (c .before .before .before .before .before .before .before .before .seniors-in .ensures)) (known-single (c .before .before .before .before .before .before .before .before .before .before .before .before .before .before .before .before .args .a .0) (unlink-lt (c .before .before .before .before .before .before .before .before .before .before .before .before .before .before .before .before .args .roles) (search needs) (c .before .before .before .before .before .before .before .before .before .before .before .before .before .before .before .before .args .sets .now) (c .before .before .before .before .before .before .before .before .before .before .before .before .before .before .before .before .args .a .0) (c .before .before .before .before .before .before .before .before .before .before .before .before .before .before .before .before .args .b .0) (c .before .before .before .before .before .before .before .before .before .before .before .before .before .before .before .before .pre) .0) (c .before .before .before .single2 .ensures)) (c .before .before .exchange-all .ensures))
     (c .before .before .before .before .before .union .ensures ∙ ap₂ union (c .before .before .before .before .before .before .difference .ensures ∙ ap₂ (λ (x : List ℕ) (s : ℕ). difference (at x (c .before .before .before .before .before .before .before .before .before .before .before .before .before .before .before .before .args .b .0)) s) (c .before .before .before .before .before .before .before .before .before .before .before .before .draw .ensures) (known-single (c .before .before .before .before .before .before .before .before .before .before .before .before .before .before .before .before .args .a .0) (unlink-lt (c .before .before .before .before .before .before .before .before .before .before .before .before .before .before .before .before .args .roles) (search needs) (c .before .before .before .before .before .before .before .before .before .before .before .before .before .before .before .before .args .sets .now) (c .before .before .before .before .before .before .before .before .before .before .before .before .before .before .before .before .args .a .0) (c .before .before .before .before .before .before .before .before .before .before .before .before .before .before .before .before .args .b .0) (c .before .before .before .before .before .before .before .before .before .before .before .before .before .before .before .before .pre) .0) (c .before .before .before .before .before .before .before .single .ensures))) (ap (λ (x : List ℕ). at x (c .before .before .before .before .before .before .before .before .before .before .before .before .before .before .before .before .args .a .0)) (c .before .before .before .before .before .before .before .before .before .before .before .before .draw .ensures)))) (c .closed .ensures)
 
 pub unlinked-spec : {M : Type 1} → statement M
@@ -100,7 +100,7 @@ unlinked-spec =
     array-read-union
     union-requires
     single-requires-2
-    put-all-requires
+    exchange-all-requires
     mul-joins
     array-write-joins
     closed-requires

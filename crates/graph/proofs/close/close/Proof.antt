@@ -2,7 +2,7 @@
 -- Assumes nothing.
 use borrow.Author.Needs.{needs}
 use Rattle.graph.specs.Working.{closed-set}
-use Rattle.graph.proofs.Loops.{left-lowest, left-falls}
+use Rattle.graph.proofs.Loops.{left-lowest, left-falls, left-alone}
 use Rattle.graph.proofs.Memo.{Doing, doing-none, doing-next, doing-done}
 use Rattle.graph.proofs.close.close.Statement.{statement}
 use Rattle.graph.proofs.close.close.Tie as tie
@@ -30,23 +30,28 @@ lowest-member-requires c κs = tt
 cast-r : tie.Need-cast-r Inv-loop μ-loop
 cast-r c = search needs
 
+lowest-alone-requires : tie.Need-lowest-alone-requires Inv-loop μ-loop
+lowest-alone-requires c κs = tt
+
 close-role-requires : tie.Need-close-role-requires Inv-loop μ-loop
 close-role-requires c κs =
-    let p = c .before .before .before .before .before .before in
-    let l = c .before .before .before .loop in
-    (left-lowest (l .inv .left) (c .before .before .loop-test .taken) (c .before .lowest-member .ensures), (p .pre .ending, l .inv .memo))
+    let p = c .before .before .before .before .before .before .before in
+    let l = c .before .before .before .before .loop .inv in
+    let some = c .before .before .before .loop-test .taken in
+    let m = c .before .before .lowest-member .ensures in
+    (left-lowest (l .left) some m, (p .pre .ending, (l .memo, left-alone (l .left) some (c .lowest-alone .ensures) m)))
 
 without-lowest-requires : tie.Need-without-lowest-requires Inv-loop μ-loop
 without-lowest-requires c κs = tt
 
 loop-less : tie.Need-loop-less Inv-loop μ-loop
 loop-less c =
-    left-falls (c .before .before .before .before .before .loop .inv .left) (c .before .before .before .before .loop-test .taken) (c .without-lowest .ensures)
+    left-falls (c .before .before .before .before .before .before .loop .inv .left) (c .before .before .before .before .before .loop-test .taken) (c .without-lowest .ensures)
 
 loop-again : tie.Need-loop-again Inv-loop μ-loop
 loop-again c =
     let k = c .before .close-role in
-    doing-next (c .before .before .before .before .before .loop .inv) (c .before .before .before .before .loop-test .taken) (c .before .before .before .lowest-member .ensures) (k .ensures .0) (k .ensures .1 .0) (k .ensures .1 .1) (c .without-lowest .ensures)
+    doing-next (c .before .before .before .before .before .before .loop .inv) (c .before .before .before .before .before .loop-test .taken) (c .before .before .before .before .lowest-member .ensures) (k .ensures .0) (k .ensures .1 .0) (k .ensures .1 .1) (c .without-lowest .ensures)
 
 returns : tie.Need-returns Inv-loop μ-loop
 unfolding closed-set
@@ -63,6 +68,7 @@ close-spec =
     loop-holds
     lowest-member-requires
     cast-r
+    lowest-alone-requires
     close-role-requires
     without-lowest-requires
     loop-less

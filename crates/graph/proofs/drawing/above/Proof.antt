@@ -26,8 +26,8 @@ cast-s c = search needs
 lies-below-requires : tie.Need-lies-below-requires Inv-loop μ-loop
 lies-below-requires c κs = tt
 
-single-requires : tie.Need-single-requires Inv-loop μ-loop
-single-requires c κs = tt
+lowest-alone-requires : tie.Need-lowest-alone-requires Inv-loop μ-loop
+lowest-alone-requires c κs = tt
 
 when-requires : tie.Need-when-requires Inv-loop μ-loop
 when-requires c κs = tt
@@ -48,7 +48,7 @@ loop-again c =
     let b = c .before .before .before .before in
     let d = b .before .before in
     collecting-next (d .before .loop .inv) (d .loop-test .taken) (b .before .lowest-member .ensures) (c .without-lowest .ensures)
-    (c .before .union .ensures ∙ rw (c .before .before .when .ensures, b .lies-below .ensures, c .before .before .before .single .ensures))
+    (c .before .union .ensures ∙ rw (c .before .before .when .ensures, b .lies-below .ensures, c .before .before .before .lowest-alone .ensures))
 
 returns : tie.Need-returns Inv-loop μ-loop
 returns c = collecting-done (c .before .loop .inv) (c .loop-test .left)
@@ -63,7 +63,7 @@ above-spec =
     lowest-member-requires
     cast-s
     lies-below-requires
-    single-requires
+    lowest-alone-requires
     when-requires
     union-requires
     without-lowest-requires

@@ -32,8 +32,8 @@ element-copy-out-strictly-included c = left-lowest (c .before .before .loop .inv
 strictly-included-requires : tie.Need-strictly-included-requires Inv-loop μ-loop
 strictly-included-requires c κs = tt
 
-single-requires : tie.Need-single-requires Inv-loop μ-loop
-single-requires c κs = tt
+lowest-alone-requires : tie.Need-lowest-alone-requires Inv-loop μ-loop
+lowest-alone-requires c κs = tt
 
 when-requires : tie.Need-when-requires Inv-loop μ-loop
 when-requires c κs = tt
@@ -55,7 +55,7 @@ loop-again c =
     let b = c .before .before .before .before in
     let d = b .before .before in
     collecting-next (d .before .before .loop .inv) (d .before .loop-test .taken) (d .lowest-member .ensures) (c .without-lowest .ensures)
-    (c .before .union .ensures ∙ rw (c .before .before .when .ensures, b .strictly-included .ensures, c .before .before .before .single .ensures))
+    (c .before .union .ensures ∙ rw (c .before .before .when .ensures, b .strictly-included .ensures, c .before .before .before .lowest-alone .ensures))
 
 returns : tie.Need-returns Inv-loop μ-loop
 returns c = collecting-done (c .before .loop .inv) (c .loop-test .left)
@@ -72,7 +72,7 @@ included-in-spec =
     mul-strictly-included
     element-copy-out-strictly-included
     strictly-included-requires
-    single-requires
+    lowest-alone-requires
     when-requires
     union-requires
     without-lowest-requires

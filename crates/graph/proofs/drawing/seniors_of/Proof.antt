@@ -1,29 +1,31 @@
--- `graph::drawing::seniors_of` meets its contract: taking from the roles above r those above these leaves the immediate seniors.
+-- `graph::drawing::seniors_of` meets its contract: the roles whose immediate juniors have r are its immediate seniors.
 -- Assumes nothing.
 use borrow.Author.Needs.{needs}
 use mathlib.Core.Path.{_∙_}
 use Rattle.graph.specs.Reading.{drawn-from}
-use Rattle.graph.proofs.Drawings.{seniors-picked}
+use Rattle.graph.proofs.Drawings.{seniors-cover, seniors-found}
 use Rattle.graph.proofs.drawing.seniors_of.Statement.{statement}
 use Rattle.graph.proofs.drawing.seniors_of.Tie as tie
 
-cast-upper : tie.Need-cast-upper
-cast-upper c = search needs
+draw-requires : tie.Need-draw-requires
+draw-requires c κs = tt
 
-upper-requires : tie.Need-upper-requires
-upper-requires c κs = tt
+senior-roles-requires : tie.Need-senior-roles-requires
+senior-roles-requires c κs = tt
 
-all-upper-requires : tie.Need-all-upper-requires
-all-upper-requires c κs = tt
+cast-seniors-in : tie.Need-cast-seniors-in
+cast-seniors-in c = search needs
 
-difference-requires : tie.Need-difference-requires
-difference-requires c κs = tt
+seniors-in-requires : tie.Need-seniors-in-requires
+seniors-in-requires c κs = tt
 
 returns : tie.Need-returns
 returns c =
-    let a = c .before .before .before .before .args in
-    c .difference .ensures ∙ rw (c .before .all-upper .ensures, c .before .before .upper .ensures) (seniors-picked (drawn-from (a .roles) (a .sets .now)) (a .r .0))
+    let b = c .before .before .before in
+    let a = b .before .before .args in
+    let g = drawn-from (a .roles) (a .sets .now) in
+    c .seniors-in .ensures ∙ rw (b .senior-roles .ensures, b .before .draw .ensures) (seniors-found g (search needs) _ (seniors-cover g) (a .r .0))
 
 pub seniors-of-spec : {M : Type 1} → statement M
 seniors-of-spec =
-    tie.close (tie.spec cast-upper upper-requires all-upper-requires difference-requires returns)
+    tie.close (tie.spec draw-requires senior-roles-requires cast-seniors-in seniors-in-requires returns)

@@ -32,8 +32,8 @@ element-copy-out-member c = left-lowest (c .before .before .loop .inv .left) (c 
 member-requires : tie.Need-member-requires Inv-loop μ-loop
 member-requires c κs = tt
 
-single-requires : tie.Need-single-requires Inv-loop μ-loop
-single-requires c κs = tt
+lowest-alone-requires : tie.Need-lowest-alone-requires Inv-loop μ-loop
+lowest-alone-requires c κs = tt
 
 when-requires : tie.Need-when-requires Inv-loop μ-loop
 when-requires c κs = tt
@@ -52,7 +52,7 @@ loop-again : tie.Need-loop-again Inv-loop μ-loop
 unfolding at
 loop-again c =
     collecting-next (c .before .before .before .before .before .before .before .before .loop .inv) (c .before .before .before .before .before .before .before .loop-test .taken) (c .before .before .before .before .before .before .lowest-member .ensures) (c .without-lowest .ensures)
-    (c .before .union .ensures ∙ rw (c .before .before .when .ensures, c .before .before .before .before .member .ensures, c .before .before .before .single .ensures))
+    (c .before .union .ensures ∙ rw (c .before .before .when .ensures, c .before .before .before .before .member .ensures, c .before .before .before .lowest-alone .ensures))
 
 returns : tie.Need-returns Inv-loop μ-loop
 returns c = collecting-done (c .before .loop .inv) (c .loop-test .left)
@@ -69,7 +69,7 @@ seniors-in-spec =
     mul-member
     element-copy-out-member
     member-requires
-    single-requires
+    lowest-alone-requires
     when-requires
     union-requires
     without-lowest-requires
