@@ -1,4 +1,4 @@
--- Numbers in base ten: the last digit stands behind those of the tenth, and a word has at most 20 digits.
+-- Numbers in base ten: the last digit stands behind those of the tenth, a word has at most 20 digits, and a byte 3.
 -- Assumes nothing.
 use mathlib.Core.Bool.{Bool, true, false}
 use mathlib.Core.List.{List, [], _∷_, _++_, append-assoc}
@@ -86,3 +86,6 @@ width-upto (suc k) x h = elim (below-ten x) [
 
 pub width-word : (x : ℕ) → x < 2 ^ 64 → length (digits x) ≤ 20
 width-word x h = width-upto 19 x (omega arith)
+
+pub width-byte : (x : ℕ) → x < 256 → length (digits x) ≤ 3
+width-byte x h = width-upto 2 x (omega arith)

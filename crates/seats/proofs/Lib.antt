@@ -31,4 +31,6 @@ pub mod LoadChecks
 pub mod Scanning
 pub mod Requests
 pub mod Changing
+pub mod TapeRecords
+pub mod Feeding
 pub mod Examples

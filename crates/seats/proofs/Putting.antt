@@ -1,19 +1,21 @@
 -- Text put into a buffer: one text behind another, and what fills the buffer's front.
 -- Assumes nothing.
+use mathlib.Core.Bool.{Bool, true, false, cond}
 use mathlib.Core.List.{List, [], _∷_, _++_, append-assoc}
 use mathlib.Core.Path.{_≡_, sym, ap, ap₂, _∙_, subst}
 use Prim.Native.Nat.{ℕ, suc, _+_, _<_, _≤_}
 use native.Mathlib.Nat.{add-zero, zero-add}
 use native.Mathlib.Omega.{arith}
-use lib.ListN.{length, set, drop, length-append}
-use lib.Seq.{sets, sets-eq}
+use lib.Dec.{leb}
+use lib.ListN.{length, set, take, drop, length-append}
+use lib.Seq.{sets, sets-eq, take-at}
 use borrow.Author.Tests.{le-leb, lt-leb}
-use Rattle.seats.specs.Bytes.{written, too-short, fill}
+use Rattle.seats.specs.Bytes.{Filled, written, too-short, fill}
 use Rattle.seats.specs.Calls.{Answer}
 use Rattle.seats.specs.Tape.{digits, answer-number, answer-place, space, line-feed, line, end-line}
 use Rattle.seats.specs.Working.{Put, tail-of}
 
-sets-append : (l : List ℕ) (i : ℕ) (v w : List ℕ) → sets l i (v ++ w) ≡ sets (sets l i v) (i + length v) w
+pub sets-append : (l : List ℕ) (i : ℕ) (v w : List ℕ) → sets l i (v ++ w) ≡ sets (sets l i v) (i + length v) w
 sets-append l i [] w = ap (λ (k : ℕ). sets l k w) (sym (add-zero i))
 sets-append l i (a ∷ v) w =
     let e : suc i + length v ≡ i + suc (length v) = omega arith in
@@ -40,6 +42,20 @@ module _ (refusal : ℕ) (l w : List ℕ) where
   unfolding fill
   unfilled h = rw (lt-leb (length w) (length l) h)
 
+  -- What a filled buffer has at its front.
+  pub fill-written : {m : List ℕ} {j : ℕ} → (written j, m) ≡ fill refusal w l → (j ≤ length m) × (take j m ≡ w)
+  unfolding fill
+  fill-written {m} {j} = go (leb (length w) (length l))
+    where
+      go : (b : Bool) → _≡_ {A = Filled × List ℕ} (written j, m) (cond b (written (length w), w ++ drop (length w) l) (too-short refusal 0, l)) → (j ≤ length m) × (take j m ≡ w)
+      go true e =
+          let d : written j ≡ written (length w) = ap (λ (p : Filled × List ℕ). p .0) e in
+          let n : j ≡ length w = cc in
+          let x : m ≡ w ++ drop (length w) l = ap (λ (p : Filled × List ℕ). p .1) e in
+          let k = ap length x ∙ length-append w (drop (length w) l) in
+          (omega arith, ap (take j) x ∙ take-at w (drop (length w) l) j (sym n))
+      go false e = let d = ap (λ (p : Filled × List ℕ). p .0) e in let z : _≡_ {A = ℕ} 0 1 = cc in absurd (omega arith)
+
 -- ---- the two lines, each a text with two numbers behind it
 joined : (w : List ℕ) (x y : ℕ) → w ++ (space ∷ digits x) ++ (space ∷ digits y) ++ (line-feed ∷ []) ≡ w ++ tail-of x y
 joined w x y =
@@ -56,7 +72,8 @@ unfolding end-line
 end-joined = joined (101 ∷ 110 ∷ 100 ∷ [])
 
 module _ (l t w : List ℕ) (x y : ℕ) (e : t ≡ w ++ tail-of x y) where
-  length-joined : length t ≡ length w + length (digits x) + length (digits y) + 3
+  -- How long a line is.
+  pub length-joined : length t ≡ length w + length (digits x) + length (digits y) + 3
   length-joined =
       let a = length-append w (tail-of x y) in
       let b = length-append (digits x) (space ∷ (digits y ++ (line-feed ∷ []))) in

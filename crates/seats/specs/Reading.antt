@@ -17,6 +17,7 @@ use Rattle.seats.specs.declared.Decoded.the-variants as decodings
 use Rattle.seats.specs.declared.Answer as answer-enum
 use Rattle.seats.specs.declared.Answer.the-variants as answers
 use Rattle.seats.specs.declared.Decision as decision-struct
+use Rattle.seats.specs.declared.Fed as fed-struct
 use Rattle.seats.specs.declared.Filled as filled-enum
 use Rattle.seats.specs.declared.Filled.the-variants as fillings
 
@@ -66,3 +67,7 @@ decided s d =
 -- What a request comes to: its answer, and the state after it.
 abbrev pub read-decision : State → decision-struct.Decision → Answer × State
 read-decision s d = (read-answer (d .answer), decided s d)
+
+-- What feeding a part of a tape gives, with the buffer that it leaves.
+abbrev pub read-fed : fed-struct.Fed → List ℕ → (Filled × List ℕ) × (ℕ × State)
+read-fed f buffer = ((read-filled (f .filled), buffer), (f .count, read-state (f .state)))

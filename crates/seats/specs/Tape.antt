@@ -1,11 +1,13 @@
--- Document 01, "The tape": the records of a tape and the lines that benchtape prints.
-use mathlib.Core.Bool.{cond, true, false}
+-- Document 01, "The tape": the records of a tape, the lines that benchtape prints, and a tape fed in parts.
+use mathlib.Core.Bool.{cond, true, false, _&&_}
 use mathlib.Core.List.{List, [], _∷_, _++_}
-use Prim.Native.Nat.{ℕ, zero, suc, _+_, _/_, _%_}
+use mathlib.Core.Path.{_≡_}
+use Prim.Native.Nat.{ℕ, zero, suc, _+_, _*_, _/_, _%_, _^_}
 use lib.ListN.{length, take, drop}
-use lib.Dec.{ltb}
+use lib.Dec.{leb, ltb}
 use Rattle.graph.specs.Drawing.{edge-count}
-use Rattle.seats.specs.Seats.{fresh}
+use Rattle.seats.specs.Bytes.{Filled, too-short, fill}
+use Rattle.seats.specs.Seats.{State, fresh}
 use Rattle.seats.specs.Calls.{Answer, accepted, answered, refused}
 use Rattle.seats.specs.Records.{record-length}
 use Rattle.seats.specs.Lists.{answers, end}
@@ -65,3 +67,42 @@ unfoldable pub printed : List ℕ → List ℕ
 printed tape =
     let l = records tape in
     lines 1 (answers fresh l) ++ end-line (length l) (edge-count (end fresh l .graph))
+
+-- ---- a tape in parts
+
+-- A part of a tape, after so many records and from the state that they left: its lines, the records so far, and the state after it.
+unfoldable pub fed : State → ℕ → List ℕ → List ℕ × (ℕ × State)
+fed s count part =
+    let l = records part in
+    (lines (suc count) (answers s l), (count + length l, end s l))
+
+-- The longest line: an index of 20 digits, a number and a place of 3 digits each, two spaces and a line feed.
+abbrev pub longest-line : ℕ
+longest-line = 29
+
+-- A part of a tape with its lines at a buffer's front; refusal 9 and nothing done where the buffer has not the longest line's room for each record, or 64 bits do not hold the records so far.
+unfoldable pub feed : State → ℕ → List ℕ → List ℕ → (Filled × List ℕ) × (ℕ × State)
+feed s count part buffer =
+    let n = length (records part) in
+    cond (leb (longest-line * n) (length buffer) && ltb (count + n) (2 ^ 64))
+    (fill 9 (fed s count part .0) buffer, fed s count part .1)
+    ((too-short 9 0, buffer), (count, s))
+
+-- Every part but the last ends where a record ends.
+unfoldable pub Parts : List (List ℕ) → Type 0
+Parts [] = Unit {0}
+Parts (p ∷ []) = Unit {0}
+Parts (p ∷ q ∷ l) = (length p % record-length ≡ 0) × Parts (q ∷ l)
+
+-- The tape that the parts make.
+unfoldable pub joined : List (List ℕ) → List ℕ
+joined [] = []
+joined (p ∷ l) = p ++ joined l
+
+-- The parts one after another: their lines, the records so far, and the state after the last.
+unfoldable pub fed-parts : State → ℕ → List (List ℕ) → List ℕ × (ℕ × State)
+fed-parts s count [] = ([], (count, s))
+fed-parts s count (p ∷ l) =
+    let (text, (n, t)) = fed s count p in
+    let rest = fed-parts t n l in
+    (text ++ rest .0, rest .1)

@@ -8,6 +8,7 @@ pub mod saving;
 mod searches;
 pub mod seating;
 pub mod stepping;
+pub mod tape;
 pub mod text;
 
 use graph::Change;
@@ -96,4 +97,11 @@ pub struct Loaded {
 pub enum Filled {
     Written(usize),
     TooShort(Refusal),
+}
+
+// What feeding a part of a tape gives: what filling the buffer answers, the records so far, and the state after them.
+pub struct Fed {
+    pub filled: Filled,
+    pub count: u64,
+    pub state: State,
 }

@@ -4,11 +4,12 @@ ghost use mathlib.Core.List.{[], _∷_};
 ghost use Prim.Native.Nat.{_+_, _≤_, _<_};
 ghost use lib.ListN.{length};
 ghost use Rattle.seats.specs.Bytes.{fill};
-ghost use Rattle.seats.specs.Tape.{digits, answer-number, answer-place, line, end-line};
+ghost use Rattle.seats.specs.Tape.{digits, answer-number, answer-place, line, end-line, longest-line};
 ghost use Rattle.seats.specs.Reading.{read-answer, read-filled};
 ghost use Rattle.seats.specs.Working.{Put, tail-of};
 use crate::Answer;
 use crate::Filled;
+use crate::endian::wide;
 use graph::Refusal;
 
 // A byte at place i of the buffer; the next place.
@@ -59,24 +60,35 @@ fn tail(buffer: &mut [u8], i: usize, x: u64, y: u64) -> usize
 
 // The number that stands for an answer.
 fn number_of(answer: Answer) -> u64
-    ensures { λ r. ⌜ r ≡ answer-number (read-answer answer) ⌝ }
+    ensures { λ r. ⌜ (r ≡ answer-number (read-answer answer)) × (r < 256) ⌝ }
 {
     match answer {
         Answer::Accepted => 0,
         Answer::Answered(_) => 0,
-        Answer::Refused(refusal) => refusal.number as u64,
+        Answer::Refused(refusal) => wide(refusal.number),
     }
 }
 
 // The place that stands for an answer.
 fn place_of(answer: Answer) -> u64
-    ensures { λ r. ⌜ r ≡ answer-place (read-answer answer) ⌝ }
+    ensures { λ r. ⌜ (r ≡ answer-place (read-answer answer)) × (r < 256) ⌝ }
 {
     match answer {
         Answer::Accepted => 0,
         Answer::Answered(held) => if held { 1 } else { 0 },
-        Answer::Refused(refusal) => refusal.place as u64,
+        Answer::Refused(refusal) => wide(refusal.place),
     }
+}
+
+// A record's line at place i of the buffer, where the longest line has room; the next place.
+pub(crate) fn put_line(buffer: &mut [u8], i: usize, index: u64, answer: Answer) -> usize
+    requires { ⌜ i + longest-line ≤ length (now buffer) ⌝ }
+    ensures { λ j. ⌜ (Put (now (buffer .entry)) i (line index (read-answer answer)) (now (buffer .exit)) j) × (j ≤ i + longest-line) ⌝ }
+{
+    let n = number_of(answer);
+    let p = place_of(answer);
+    let j = number(buffer, i, index);
+    tail(buffer, j, n, p)
 }
 
 // A record's line at the front of the buffer, or refusal 9 where the buffer is shorter.

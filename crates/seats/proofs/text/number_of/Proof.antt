@@ -15,22 +15,22 @@ enum-told-2 c = search needs
 enum-known-answer : tie.Need-enum-known-answer
 enum-known-answer c = search needs
 
-cast-result : tie.Need-cast-result
-cast-result c = search needs
+wide-requires : tie.Need-wide-requires
+wide-requires c κs = search needs
 
 returns : tie.Need-returns
 unfolding read-answer answer-number
-returns c = rw (c .enum-told .given .1)
+returns c = (rw (c .enum-told .given .1), search needs)
 
 returns-2 : tie.Need-returns-2
 unfolding read-answer answer-number
-returns-2 c = rw (c .enum-told2 .given .1)
+returns-2 c = (rw (c .enum-told2 .given .1), search needs)
 
 returns-3 : tie.Need-returns-3
 unfolding read-answer answer-number
-returns-3 c = rw (c .before .before .answer .given .1)
+returns-3 c = (rw (c .before .before .answer .given .1) (c .wide .ensures .0), search needs)
 
 pub number-of-spec : {M : Type 1} → statement M
 number-of-spec =
     tie.close
-    (tie.spec enum-told enum-told-2 enum-known-answer cast-result returns returns-2 returns-3)
+    (tie.spec enum-told enum-told-2 enum-known-answer wide-requires returns returns-2 returns-3)

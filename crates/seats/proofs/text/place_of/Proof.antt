@@ -15,24 +15,24 @@ enum-known-answer c = search needs
 enum-known-answer-2 : tie.Need-enum-known-answer-2
 enum-known-answer-2 c = search needs
 
-cast-result : tie.Need-cast-result
-cast-result c = search needs
+wide-requires : tie.Need-wide-requires
+wide-requires c κs = search needs
 
 returns : tie.Need-returns
 unfolding read-answer answer-place
-returns c = rw (c .enum-told .given .1)
+returns c = (rw (c .enum-told .given .1), search needs)
 
 returns-2 : tie.Need-returns-2
 unfolding read-answer answer-place
-returns-2 c = rw (c .before .before .answer .given .1, c .if1 .taken)
+returns-2 c = (rw (c .before .before .answer .given .1, c .if1 .taken), search needs)
 
 returns-3 : tie.Need-returns-3
 unfolding read-answer answer-place
-returns-3 c = rw (c .before .before .answer .given .1, c .if1 .left)
+returns-3 c = (rw (c .before .before .answer .given .1, c .if1 .left), search needs)
 
 returns-4 : tie.Need-returns-4
 unfolding read-answer answer-place
-returns-4 c = rw (c .before .before .answer2 .given .1)
+returns-4 c = (rw (c .before .before .answer2 .given .1) (c .wide .ensures .0), search needs)
 
 pub place-of-spec : {M : Type 1} → statement M
 place-of-spec =
@@ -41,7 +41,7 @@ place-of-spec =
     enum-told
     enum-known-answer
     enum-known-answer-2
-    cast-result
+    wide-requires
     returns
     returns-2
     returns-3

@@ -38,7 +38,7 @@ returns c =
     let a = c .before .before .before .before in
     let s = a .before .before .before .args in
     line-unfilled (s .buffer .now) _ (digits (s .index)) _ _
-    (line-joined (s .index) (read-answer (s .answer)) (a .before .number-of .ensures) (a .place-of .ensures))
+    (line-joined (s .index) (read-answer (s .answer)) (a .before .number-of .ensures .0) (a .place-of .ensures .0))
     (omega arith)
 
 number-requires : tie.Need-number-requires
@@ -57,7 +57,7 @@ returns-2 c =
     let a = b .before .before .before .before .before .before in
     let s = a .before .before .before .args in
     line-filled (s .buffer .now) _ (digits (s .index)) _ _
-    (line-joined (s .index) (read-answer (s .answer)) (a .before .number-of .ensures) (a .place-of .ensures))
+    (line-joined (s .index) (read-answer (s .answer)) (a .before .number-of .ensures .0) (a .place-of .ensures .0))
     (omega arith)
     (and-then (b .number .ensures) (c .before .before .tail .ensures))
 

@@ -1,0 +1,194 @@
+-- The records of a tape: the first and those of the rest, how many there are, and that feeding a tape in parts is feeding it whole.
+-- Assumes nothing.
+use mathlib.Core.List.{List, [], _∷_, _++_, append-assoc, append-nil}
+use mathlib.Core.Path.{_≡_, refl, sym, ap, ap₂, _∙_}
+use Prim.Native.Nat.{ℕ, zero, suc, min, _+_, _-_, _/_, _%_, _≤_, _<_}
+use native.Mathlib.Nat.{not-suc-le-zero, add-zero, zero-add}
+use native.Mathlib.Numerals.{add-one}
+use native.Mathlib.Omega.{arith}
+use lib.ListN.{length, take, drop, length-append, length-drop}
+use lib.Seq.{take-nil, drop-nil, take-append-le, drop-append-le, drop-drop}
+use Rattle.lists.specs.Runs.{run}
+use Rattle.lists.proofs.Runs.{run-append, answers-length}
+use Rattle.graph.specs.Drawing.{edge-count}
+use Rattle.seats.specs.Seats.{State, fresh}
+use Rattle.seats.specs.Calls.{Answer}
+use Rattle.seats.specs.Records.{record-length, step}
+use Rattle.seats.specs.Lists.{answers, end}
+use Rattle.seats.specs.Tape.{records-upto, records, line, lines, end-line, printed, fed, Parts, joined, fed-parts}
+
+-- ---- one record after another
+-- More records than a tape has bytes change nothing.
+upto-enough : (n m : ℕ) (l : List ℕ) → length l ≤ n → length l ≤ m → records-upto n l ≡ records-upto m l
+unfolding records-upto
+upto-enough zero zero l h k = refl
+upto-enough zero (suc m) [] h k = refl
+upto-enough zero (suc m) (x ∷ l) h k = absurd (not-suc-le-zero h)
+upto-enough (suc n) zero [] h k = refl
+upto-enough (suc n) zero (x ∷ l) h k = absurd (not-suc-le-zero k)
+upto-enough (suc n) (suc m) [] h k = refl
+upto-enough (suc n) (suc m) (x ∷ l) h k =
+    let e = length-drop record-length (x ∷ l) in
+    ap (λ (r : List (List ℕ)). take record-length (x ∷ l) ∷ r) (upto-enough n m (drop record-length (x ∷ l)) (omega arith) (omega arith))
+
+-- The first record, and those of the rest.
+pub records-first : (l : List ℕ) → 0 < length l → records l ≡ take record-length l ∷ records (drop record-length l)
+unfolding records records-upto
+records-first [] h = absurd (not-suc-le-zero h)
+records-first (x ∷ l) h =
+    let e = length-drop record-length (x ∷ l) in
+    ap (λ (r : List (List ℕ)). take record-length (x ∷ l) ∷ r)
+    (upto-enough (length l) (length (drop record-length (x ∷ l))) (drop record-length (x ∷ l)) (omega arith) (omega arith))
+
+-- A tape without bytes has no record.
+pub records-none : (l : List ℕ) → length l ≡ 0 → records l ≡ []
+unfolding records records-upto
+records-none [] e = refl
+records-none (x ∷ l) e = absurd (omega arith)
+
+-- What holds of a tape where it holds of the tape behind its first record holds of every tape.
+by-records : (P : List ℕ → Type 0) → ((l : List ℕ) → length l ≡ 0 → P l) → ((l : List ℕ) → 0 < length l → P (drop record-length l) → P l)
+    → (n : ℕ) (l : List ℕ) → length l ≤ n → P l
+by-records P none more zero [] h = none [] refl
+by-records P none more (suc n) [] h = none [] refl
+by-records P none more zero (x ∷ l) h = absurd (not-suc-le-zero h)
+by-records P none more (suc n) (x ∷ l) h =
+    let e = length-drop record-length (x ∷ l) in
+    more (x ∷ l) (omega arith) (by-records P none more n (drop record-length (x ∷ l)) (omega arith))
+
+-- How many records a tape has.
+pub record-count : (l : List ℕ) → length (records l) ≡ (length l + 31) / record-length
+record-count l =
+    by-records (λ (t : List ℕ). length (records t) ≡ (length t + 31) / record-length)
+    (λ t e. ap length (records-none t e) ∙ omega arith)
+    (λ t h ih. let e = length-drop record-length t in ap length (records-first t h) ∙ ap suc ih ∙ omega arith)
+    (length l) l (omega arith)
+
+-- A list has no more elements than its length.
+take-cut : (k n : ℕ) (l : List ℕ) → k ≡ min n (length l) → take k l ≡ take n l
+take-cut k n [] e = take-nil k ∙ sym (take-nil n)
+take-cut zero zero (x ∷ l) e = refl
+take-cut zero (suc n) (x ∷ l) e = absurd (omega arith)
+take-cut (suc k) zero (x ∷ l) e = absurd (omega arith)
+take-cut (suc k) (suc n) (x ∷ l) e = ap (λ (r : List ℕ). x ∷ r) (take-cut k n l (omega arith))
+
+drop-cut : (k n : ℕ) (l : List ℕ) → k ≡ min n (length l) → drop k l ≡ drop n l
+drop-cut k n [] e = drop-nil k ∙ sym (drop-nil n)
+drop-cut zero zero (x ∷ l) e = refl
+drop-cut zero (suc n) (x ∷ l) e = absurd (omega arith)
+drop-cut (suc k) zero (x ∷ l) e = absurd (omega arith)
+drop-cut (suc k) (suc n) (x ∷ l) e = drop-cut k n l (omega arith)
+
+-- The record at a place of a tape, cut off where the tape ends, and those behind it.
+pub records-next : (l : List ℕ) (start next : ℕ) → start < length l → next ≡ min (start + record-length) (length l)
+    → records (drop start l) ≡ take (next - start) (drop start l) ∷ records (drop next l)
+records-next l start next h e =
+    let d = length-drop start l in
+    let k : next - start ≡ min record-length (length (drop start l)) = omega arith in
+    let n : start + (next - start) ≡ next = omega arith in
+    let a = take-cut (next - start) record-length (drop start l) k in
+    let b = ap (λ (i : ℕ). drop i l) (sym n) ∙ sym (drop-drop (next - start) start l) ∙ drop-cut (next - start) record-length (drop start l) k in
+    records-first (drop start l) (omega arith) ∙ ap₂ (λ (r t : List ℕ). r ∷ records t) (sym a) (sym b)
+
+-- A tape whose front ends where a record ends.
+pub records-append : (p q : List ℕ) → length p % record-length ≡ 0 → records (p ++ q) ≡ records p ++ records q
+records-append p q =
+    by-records (λ (t : List ℕ). length t % record-length ≡ 0 → records (t ++ q) ≡ records t ++ records q)
+    none more (length p) p (omega arith)
+  where
+    none : (t : List ℕ) → length t ≡ 0 → length t % record-length ≡ 0 → records (t ++ q) ≡ records t ++ records q
+    none [] e m = ap (λ (r : List (List ℕ)). r ++ records q) (sym (records-none [] refl))
+    none (x ∷ t) e m = absurd (omega arith)
+
+    more : (t : List ℕ) → 0 < length t → (length (drop record-length t) % record-length ≡ 0 → records (drop record-length t ++ q) ≡ records (drop record-length t) ++ records q)
+        → length t % record-length ≡ 0 → records (t ++ q) ≡ records t ++ records q
+    more t h ih m =
+        let e = length-drop record-length t in
+        let w : record-length ≤ length t = omega arith in
+        let a = length-append t q in
+        records-first (t ++ q) (omega arith)
+        ∙ ap₂ (λ (r u : List ℕ). r ∷ records u) (take-append-le record-length t q w) (drop-append-le record-length t q w)
+        ∙ ap (λ (r : List (List ℕ)). take record-length t ∷ r) (ih (omega arith))
+        ∙ sym (ap (λ (r : List (List ℕ)). r ++ records q) (records-first t h))
+
+-- ---- answers and lines
+module _ (s : State) where
+  pub answers-count : (l : List (List ℕ)) → length (answers s l) ≡ length l
+  unfolding answers
+  answers-count = answers-length step s
+
+  module _ (l m : List (List ℕ)) where
+    pub answers-append : answers s (l ++ m) ≡ answers s l ++ answers (end s l) m
+    unfolding answers end
+    answers-append = ap (λ (p : List Answer × State). p .0) (run-append step s l m)
+
+    pub end-append : end s (l ++ m) ≡ end (end s l) m
+    unfolding end
+    end-append = ap (λ (p : List Answer × State). p .1) (run-append step s l m)
+
+pub lines-append : (i : ℕ) (a b : List Answer) → lines i (a ++ b) ≡ lines i a ++ lines (i + length a) b
+unfolding lines
+lines-append i [] b = ap (λ (k : ℕ). lines k b) (sym (add-zero i))
+lines-append i (x ∷ a) b =
+    let e : suc i + length a ≡ i + suc (length a) = omega arith in
+    ap (λ (t : List ℕ). line i x ++ t) (lines-append (suc i) a b ∙ ap (λ (k : ℕ). lines (suc i) a ++ lines k b) e)
+    ∙ sym (append-assoc (line i x) (lines (suc i) a) (lines (i + suc (length a)) b))
+
+-- ---- a tape in parts
+-- A tape without bytes comes to nothing.
+pub fed-none : (s : State) (count : ℕ) → fed s count [] ≡ ([], (count, s))
+unfolding fed records records-upto answers end run lines
+fed-none s count = ap (λ (n : ℕ). ([], (n, s))) (add-zero count)
+
+-- The record at a place of a tape, cut off where the tape ends, and the rest after it.
+pub fed-next : (s : State) (index : ℕ) (tape : List ℕ) (start next : ℕ) → start < length tape → next ≡ min (start + record-length) (length tape)
+    → let (a, t) = step s (take (next - start) (drop start tape)) in
+    fed s index (drop start tape) ≡ (line (index + 1) a ++ fed t (index + 1) (drop next tape) .0, fed t (index + 1) (drop next tape) .1)
+unfolding fed answers end run lines
+fed-next s index tape start next h e =
+    let r = take (next - start) (drop start tape) in
+    let t = step s r .1 in
+    let l = records (drop next tape) in
+    let n : index + suc (length l) ≡ suc index + length l = omega arith in
+    ap (λ (l : List (List ℕ)). (lines (suc index) (answers s l), (index + length l, end s l))) (records-next tape start next h e)
+    ∙ ap (λ (n : ℕ). (line (suc index) (step s r .0) ++ lines (suc (suc index)) (answers t l), (n, end t l))) n
+    ∙ ap (λ (i : ℕ). (line i (step s r .0) ++ lines (suc i) (answers t l), (i + length l, end t l))) (sym (add-one index))
+
+-- A tape whose front ends where a record ends: the front, and the rest after it.
+pub fed-append : (s : State) (count : ℕ) (p q : List ℕ) → length p % record-length ≡ 0
+    → let (text, (n, t)) = fed s count p in fed s count (p ++ q) ≡ (text ++ fed t n q .0, fed t n q .1)
+unfolding fed
+fed-append s count p q h =
+    let l = records p in
+    let m = records q in
+    let e : suc count + length (answers s l) ≡ suc (count + length l) = omega (arith, answers-count s l) in
+    let f : count + length (l ++ m) ≡ count + length l + length m = omega (arith, length-append l m) in
+    ap (λ (r : List (List ℕ)). (lines (suc count) (answers s r), (count + length r, end s r))) (records-append p q h)
+    ∙ ap₂ (λ (t : List ℕ) (z : ℕ × State). (t, z))
+    (ap (lines (suc count)) (answers-append s l m)
+    ∙ lines-append (suc count) (answers s l) (answers (end s l) m)
+    ∙ ap (λ (k : ℕ). lines (suc count) (answers s l) ++ lines k (answers (end s l) m)) e)
+    (ap₂ (λ (n : ℕ) (z : State). (n, z)) f (end-append s l m))
+
+-- Feeding a tape in parts is feeding it whole.
+pub parts-whole : (s : State) (count : ℕ) (parts : List (List ℕ)) → Parts parts → fed-parts s count parts ≡ fed s count (joined parts)
+unfolding fed-parts joined Parts
+parts-whole s count [] h = sym (fed-none s count)
+parts-whole s count (p ∷ []) h = ap (λ (t : List ℕ). (t, fed s count p .1)) (append-nil (fed s count p .0)) ∙ ap (fed s count) (sym (append-nil p))
+parts-whole s count (p ∷ q ∷ l) h =
+    let (text, (n, t)) = fed s count p in
+    ap (λ (z : List ℕ × (ℕ × State)). (text ++ z .0, z .1)) (parts-whole t n (q ∷ l) (h .1)) ∙ sym (fed-append s count p (q ++ joined l) (h .0))
+
+-- What a tape prints: its lines, and the last line.
+pub printed-whole : (tape : List ℕ) → let (text, (count, s)) = fed fresh 0 tape in printed tape ≡ text ++ end-line count (edge-count (s .graph))
+unfolding printed fed
+printed-whole tape =
+    let l = records tape in
+    ap (λ (n : ℕ). lines 1 (answers fresh l) ++ end-line n (edge-count (end fresh l .graph))) (sym (zero-add (length l)))
+
+-- What a tape in parts prints: the lines of its parts, one part after another, and the last line.
+pub printed-parts : (parts : List (List ℕ)) → Parts parts
+    → let (text, (count, s)) = fed-parts fresh 0 parts in printed (joined parts) ≡ text ++ end-line count (edge-count (s .graph))
+printed-parts parts h =
+    printed-whole (joined parts)
+    ∙ sym (ap (λ (z : List ℕ × (ℕ × State)). z .0 ++ end-line (z .1 .0) (edge-count (z .1 .1 .graph))) (parts-whole fresh 0 parts h))

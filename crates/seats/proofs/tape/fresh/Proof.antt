@@ -1,0 +1,14 @@
+-- `tape::fresh` meets its contract: each table is 64 empty sets.
+-- Assumes nothing.
+use mathlib.Core.Path.{refl}
+use Rattle.graph.specs.Graph as graph
+use Rattle.seats.specs.Seats.{fresh}
+use Rattle.seats.proofs.tape.fresh.Statement.{statement}
+use Rattle.seats.proofs.tape.fresh.Tie as tie
+
+returns : tie.Need-returns
+unfolding fresh graph.fresh
+returns c = refl
+
+pub fresh-spec : {M : Type 1} → statement M
+fresh-spec = tie.close (tie.spec returns)

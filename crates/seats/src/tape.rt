@@ -1,0 +1,116 @@
+// A tape fed in parts: the records of a part run from a state on, their lines written into a lent buffer.
+ghost use mathlib.Core.Path.{_≡_};
+ghost use mathlib.Core.Bool.{_&&_};
+ghost use Prim.Native.Nat.{min, _+_, _*_, _/_, _^_, _≤_, _<_};
+ghost use lib.Dec.{leb, ltb};
+ghost use lib.ListN.{length};
+ghost use Rattle.seats.specs.Bytes.{fill};
+ghost use Rattle.seats.specs.Promises.{FreshPromise};
+ghost use Rattle.seats.specs.Records.{record-length};
+ghost use Rattle.seats.specs.Tape.{records, fed, longest-line, feed};
+ghost use Rattle.seats.specs.Reading.{read-state, read-fed};
+use crate::Fed;
+use crate::Filled;
+use crate::State;
+use crate::stepping;
+use crate::text;
+use graph::Refusal;
+
+// How many bytes a record has.
+const RECORD: usize = 32;
+
+// How many bytes the longest line has.
+const LINE: usize = 29;
+
+// A fresh state, from which a sitting starts.
+pub fn fresh() -> State
+    ensures { λ r. ⌜ FreshPromise r ⌝ }
+{
+    State {
+        roles: 0,
+        sets: [0; 64],
+        conflicts: [0; 64],
+        seats: [0; 64],
+    }
+}
+
+// How many records so many bytes make, a partial last one among them.
+fn record_count(bytes: usize) -> usize
+    ensures { λ r. ⌜ r ≡ (bytes + 31) / record-length ⌝ }
+{
+    bytes / RECORD + (bytes % RECORD + 31) / RECORD
+}
+
+// Where the record ends that starts at a place of so many bytes.
+fn record_end(start: usize, bytes: usize) -> usize
+    requires { ⌜ start ≤ bytes ⌝ }
+    ensures { λ r. ⌜ r ≡ min (start + record-length) bytes ⌝ }
+{
+    if bytes - start < RECORD {
+        return bytes;
+    }
+    start + RECORD
+}
+
+// Whether n records more can be fed: the room is enough for their lines, and a word for their count.
+fn can_feed(count: u64, n: usize, room: usize) -> bool
+    ensures { λ r. ⌜ r ≡ (leb (longest-line * n) room && ltb (count + n) (2 ^ 64)) ⌝ }
+{
+    if room / LINE < n {
+        return false;
+    }
+    n as u64 <= u64::MAX - count
+}
+
+// The records of a part of a tape, one after another; they can be fed.
+fn run(state: State, count: u64, part: &[u8], buffer: &mut [u8]) -> Fed
+    requires { ⌜ (longest-line * length (records (now part)) ≤ length (now buffer)) × (count + length (records (now part)) < 2 ^ 64) ⌝ }
+    ensures { λ r. let f = fed (read-state state) count (now (part .entry)) in ⌜ read-fed r (now (buffer .exit)) ≡ (fill 9 (f .0) (now (buffer .entry)), f .1) ⌝ }
+{
+    let mut roles = state.roles;
+    let mut sets = state.sets;
+    let mut conflicts = state.conflicts;
+    let mut seats = state.seats;
+    let mut index = count;
+    let mut place: usize = 0;
+    let mut start: usize = 0;
+    while start < part.len() {
+        let next = record_end(start, part.len());
+        let bytes = &part[start..next];
+        let taken = stepping::take(roles, &mut sets, &mut conflicts, &mut seats, bytes);
+        let answer = taken.answer;
+        roles = taken.roles;
+        index += 1;
+        place = text::put_line(buffer, place, index, answer);
+        start = next;
+    }
+    let after = State {
+        roles,
+        sets,
+        conflicts,
+        seats,
+    };
+    Fed {
+        filled: Filled::Written(place),
+        count: index,
+        state: after,
+    }
+}
+
+// A part of a tape, after so many records and from the state that they left.
+pub fn feed(state: State, count: u64, part: &[u8], buffer: &mut [u8]) -> Fed
+    ensures { λ r. ⌜ read-fed r (now (buffer .exit)) ≡ feed (read-state state) count (now (part .entry)) (now (buffer .entry)) ⌝ }
+{
+    if !can_feed(count, record_count(part.len()), buffer.len()) {
+        let refusal = Refusal {
+            number: 9,
+            place: 0,
+        };
+        return Fed {
+            filled: Filled::TooShort(refusal),
+            count,
+            state,
+        };
+    }
+    run(state, count, part, buffer)
+}
