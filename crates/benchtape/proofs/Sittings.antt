@@ -1,0 +1,110 @@
+-- How a sitting goes on: a failure ends it where it stood, and bytes that are answered lengthen the tape that it has read.
+-- Assumes nothing.
+use mathlib.Core.Bool.{Bool, true, false}
+use mathlib.Core.List.{List, [], _++_}
+use mathlib.Core.Path.{_≡_, refl, sym, ap, _∙_, subst}
+use Prim.Native.Nat.{ℕ, _+_, _%_, _≤_}
+use native.Mathlib.Omega.{arith}
+use lib.Dec.{eqb}
+use lib.ListN.{length, take, length-append}
+use borrow.Author.Tests.{eqb-true}
+use Rattle.io.specs.Counts.{Counts}
+use Rattle.graph.specs.Graph.{present, ordinary, effective}
+use Rattle.graph.specs.Drawing.{below, edge, edge-count}
+use Rattle.graph.specs.Reading.{drawn-from}
+use Rattle.seats.specs.Bytes.{Filled, fill}
+use Rattle.seats.specs.Seats.{State, fresh}
+use Rattle.seats.specs.Records.{record-length}
+use Rattle.seats.specs.Tape.{records, fed, feed}
+use Rattle.seats.specs.Reading.{read-state, read-filled}
+use Rattle.seats.proofs.TapeRecords.{record-count, fed-none, fed-append}
+use Rattle.seats.proofs.Putting.{fill-written}
+use Rattle.seats.proofs.Feeding.{Told, feed-told}
+use Rattle.benchtape.specs.Sitting.{chunk-length, Within, standing, Answered, Reached, Proceeded}
+use Rattle.benchtape.specs.declared.Sitting.{Sitting}
+use Rattle.benchtape.specs.declared.Read as read-enum
+use Rattle.benchtape.specs.declared.Read.the-variants.{Bytes}
+use Rattle.seats.specs.declared.State as state-struct
+use Rattle.seats.specs.declared.Filled as filled-enum
+use Rattle.seats.specs.declared.Filled.the-variants.{Written}
+
+never : {X : Type 0} → true ≡ false → X
+never e = let z : _≡_ {A = ℕ} 0 1 = cc in absurd (omega arith)
+
+-- Bytes that were read lie within the buffer.
+pub within : {r : read-enum.Read} {n : ℕ} (buffer : List ℕ) → r ≡ Bytes n → Within r buffer → Counts n buffer
+within buffer e w = subst (λ (r : read-enum.Read). Within r buffer) e w
+
+-- What a buffer has at its front where bytes were written.
+module _ {filled : filled-enum.Filled} {n : ℕ} (w : filled ≡ Written n) where
+  -- The lines of a part of a tape.
+  pub fed-told : (s : State) (count : ℕ) (bytes buffer : List ℕ) {m : List ℕ} {z : ℕ × State}
+      → _≡_ {A = (Filled × List ℕ) × (ℕ × State)} ((read-filled filled, m), z) (feed s count bytes buffer) → Told s count bytes n m z
+  unfolding read-filled
+  fed-told s count bytes buffer {m} {z} e = feed-told s count bytes buffer (ap (λ (f : filled-enum.Filled). ((read-filled f, m), z)) (sym w) ∙ e)
+
+  -- A line.
+  pub line-told : (line buffer : List ℕ) {m : List ℕ} → _≡_ {A = Filled × List ℕ} (read-filled filled, m) (fill 9 line buffer) → (n ≤ length m) × (take n m ≡ line)
+  unfolding read-filled
+  line-told line buffer {m} e = fill-written 9 buffer line (ap (λ (f : filled-enum.Filled). (read-filled f, m)) (sym w) ∙ e)
+
+-- The edges of a state do not depend on its conflicts and seats.
+pub edges-of : (s : state-struct.State) → edge-count (drawn-from (s .roles) (s .sets)) ≡ edge-count (read-state s .graph)
+unfolding edge-count edge below present ordinary effective
+edges-of s = refl
+
+-- A failure.
+pub stopped : (s : Sitting) (bytes : List ℕ) → Answered s bytes (record { state = s .state; count = s .count; more = false; failed = true })
+stopped s bytes = record { done = never; bound = never; more = never; kept = λ e. refl; stopped = λ e. refl }
+
+-- The bytes are fed.
+pub answered : {s : Sitting} {bytes m : List ℕ} {n count : ℕ} {state : state-struct.State}
+    → Told (read-state (s .state)) (s .count) bytes n m (count, read-state state)
+    → Answered s bytes (record { state = state; count = count; more = eqb (length bytes) chunk-length; failed = false })
+answered t = record { done = λ e. t .rest; bound = λ e. t .bound; more = λ e. refl; kept = λ e. never (sym e); stopped = λ e. never (sym e) }
+
+-- A fresh state stands where no bytes lead.
+pub started : (state : state-struct.State) → read-state state ≡ fresh → Reached (record { state = state; count = 0; more = true; failed = false })
+started state e = record {
+  tape = [];
+  stands = ap (λ (s : State). (0, s)) e ∙ ap (λ (z : List ℕ × (ℕ × State)). z .1) (sym (fed-none fresh 0));
+  whole = λ e. refl;
+}
+
+module _ (s r : Sitting) (bytes : List ℕ) (at : Reached s) (on : s .more ≡ true) (a : Answered s bytes r) where
+  lengthened : r .failed ≡ false → standing r ≡ fed fresh 0 (at .tape ++ bytes) .1
+  lengthened e =
+      a .done e
+      ∙ ap (λ (z : ℕ × State). fed (z .1) (z .0) bytes .1) (at .stands)
+      ∙ sym (ap (λ (z : List ℕ × (ℕ × State)). z .1) (fed-append fresh 0 (at .tape) bytes (at .whole on)))
+
+  full : r .failed ≡ false → r .more ≡ true → length bytes ≡ chunk-length
+  full e m = eqb-true (length bytes) chunk-length (sym (a .more e) ∙ m)
+
+  counted : r .failed ≡ false → r .count ≡ s .count + length (records bytes)
+  unfolding fed
+  counted e = ap (λ (z : ℕ × State). z .0) (a .done e)
+
+  -- Either way it stands where a tape leads.
+  pub proceeded : Proceeded s r
+  proceeded = go (r .failed) refl
+    where
+      go : (b : Bool) → r .failed ≡ b → Proceeded s r
+      go false e = record {
+        reached = record {
+          tape = at .tape ++ bytes;
+          stands = lengthened e;
+          whole = λ m.
+              let w = at .whole on in
+              let f = full e m in
+              let l = length-append (at .tape) bytes in
+              omega arith;
+        };
+        grown = λ m. let f = full e m in let n = record-count bytes in let c = counted e in omega arith;
+        bound = λ m. a .bound e;
+      }
+      go true e = record {
+        reached = record { tape = at .tape; stands = a .kept e ∙ at .stands; whole = λ m. never (sym m ∙ a .stopped e) };
+        grown = λ m. never (sym m ∙ a .stopped e);
+        bound = λ m. never (sym m ∙ a .stopped e);
+      }

@@ -1,0 +1,87 @@
+-- `answer` meets its contract: what feeding gives, or where it stood.
+-- Assumes nothing.
+use borrow.Author.Needs.{needs}
+use mathlib.Core.Path.{sym}
+use lib.Seq.{length-take-le}
+use Rattle.seats.specs.Reading.{read-state}
+use Rattle.benchtape.proofs.Sittings.{fed-told, answered}
+use Rattle.benchtape.proofs.answer.Statement.{statement}
+use Rattle.benchtape.proofs.answer.Tie as tie
+
+room-requires : tie.Need-room-requires
+room-requires c κs = search needs
+
+slice-aggregate-feed : tie.Need-slice-aggregate-feed
+slice-aggregate-feed c = search needs
+
+feed-requires : tie.Need-feed-requires
+feed-requires c κs = search needs
+
+enum-told : tie.Need-enum-told
+enum-told c = search needs
+
+slice-aggregate-stop : tie.Need-slice-aggregate-stop
+slice-aggregate-stop c = search needs
+
+stop-requires : tie.Need-stop-requires
+stop-requires c κs = search needs
+
+enum-known-filled : tie.Need-enum-known-filled
+enum-known-filled c = search needs
+
+array-share-prefix-room : tie.Need-array-share-prefix-room
+array-share-prefix-room c =
+    let f = c .before .before .before .before in
+    let s = f .before .before .before .before .before .args in
+    fed-told (c .before .filled .given .1) (read-state (s .sitting .state)) (s .sitting .count) (s .bytes .now) _ (f .feed .ensures) .within
+
+slice-aggregate-write-lines : tie.Need-slice-aggregate-write-lines
+slice-aggregate-write-lines c =
+    let f = c .before .before .before .before .before in
+    let s = f .before .before .before .before .before .args in
+    let t = fed-told (c .before .before .filled .given .1) (read-state (s .sitting .state)) (s .sitting .count) (s .bytes .now) _ (f .feed .ensures) in
+    sym (length-take-le _ _ (t .within))
+
+write-lines-requires : tie.Need-write-lines-requires
+write-lines-requires c κs =
+    let f = c .before .before .before .before .before in
+    let s = f .before .before .before .before .before .args in
+    fed-told (c .before .before .filled .given .1) (read-state (s .sitting .state)) (s .sitting .count) (s .bytes .now) _ (f .feed .ensures) .text
+
+slice-aggregate-stop-2 : tie.Need-slice-aggregate-stop-2
+slice-aggregate-stop-2 c = search needs
+
+stop-requires-2 : tie.Need-stop-requires-2
+stop-requires-2 c κs = search needs
+
+returns : tie.Need-returns
+returns c = c .stop2 .ensures _
+
+returns-2 : tie.Need-returns-2
+returns-2 c = c .stop .ensures _
+
+returns-3 : tie.Need-returns-3
+returns-3 c =
+    let f = c .before .before .before .before .before .before .before .before in
+    let s = f .before .before .before .before .before .args in
+    answered (fed-told (c .before .before .before .before .before .filled .given .1) (read-state (s .sitting .state)) (s .sitting .count) (s .bytes .now) _ (f .feed .ensures))
+
+pub answer-spec : {M : Type 1} → statement M
+answer-spec =
+    tie.close
+    (tie.spec
+    room-requires
+    slice-aggregate-feed
+    feed-requires
+    enum-told
+    slice-aggregate-stop
+    stop-requires
+    enum-known-filled
+    array-share-prefix-room
+    slice-aggregate-write-lines
+    write-lines-requires
+    slice-aggregate-stop-2
+    stop-requires-2
+    returns
+    returns-2
+    returns-3)

@@ -1,0 +1,58 @@
+-- `sit` meets its contract. The invariant: the sitting stands where the bytes read so far lead, and there may be more of them.
+-- The measure: how many records more 64 bits can count.
+-- Assumes nothing.
+use borrow.Author.Needs.{needs}
+use borrow.Author.Tests.{not-false}
+use mathlib.Core.Bool.{true}
+use mathlib.Core.Path.{_≡_, refl}
+use Prim.Native.Nat.{_-_, _^_, _<_}
+use native.Mathlib.Omega.{arith}
+use Rattle.benchtape.specs.Sitting.{Reached}
+use Rattle.benchtape.proofs.Sittings.{started}
+use Rattle.benchtape.proofs.sit.Statement.{statement}
+use Rattle.benchtape.proofs.sit.Tie as tie
+
+abbrev Inv-loop : tie.InvT-loop
+Inv-loop sitting₀ sitting = (Reached sitting) × (sitting .more ≡ true) × (sitting .count < 2 ^ 64)
+
+abbrev μ-loop : tie.MeasureT-loop
+μ-loop sitting₀ sitting = 2 ^ 64 - sitting .count
+
+fresh-requires : tie.Need-fresh-requires Inv-loop μ-loop
+fresh-requires c κs = search needs
+
+loop-holds : tie.Need-loop-holds Inv-loop μ-loop
+loop-holds c = (started _ (c .fresh .ensures), refl, search needs)
+
+proceed-requires : tie.Need-proceed-requires Inv-loop μ-loop
+proceed-requires c κs = (c .loop .inv .0, c .loop .inv .1)
+
+returns : tie.Need-returns Inv-loop μ-loop
+returns c = c .before .before .proceed .ensures .reached
+
+loop-less : tie.Need-loop-less Inv-loop μ-loop
+loop-less c =
+    let p = c .before .before .proceed .ensures in
+    let m = not-false _ (c .if1 .left) in
+    let g = p .grown m in
+    let b = p .bound m in
+    omega arith
+
+loop-again : tie.Need-loop-again Inv-loop μ-loop
+loop-again c =
+    let p = c .before .before .proceed .ensures in
+    let m = not-false _ (c .if1 .left) in
+    (p .reached, m, p .bound m)
+
+pub sit-spec : {M : Type 1} → statement M
+sit-spec =
+    tie.close
+    (tie.spec
+    Inv-loop
+    μ-loop
+    fresh-requires
+    loop-holds
+    proceed-requires
+    returns
+    loop-less
+    loop-again)
