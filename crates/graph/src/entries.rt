@@ -1,4 +1,4 @@
-// Tables of sets: one entry read, and entries changed or looked through for each member of a set of roles.
+// Tables of sets: a copy, and entries changed or looked through for each member of a set of roles.
 ghost use mathlib.Core.Path.{_≡_};
 ghost use mathlib.Core.Bool.{_&&_};
 ghost use lib.ListN.{length};

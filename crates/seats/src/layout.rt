@@ -1,10 +1,19 @@
-// What saving and loading share: the end roles, which no image lists, and an image's distance.
+// What saving and loading share: the end roles, which no image lists, one-member sets, and an image's distance.
 ghost use mathlib.Core.Path.{_≡_};
 ghost use Prim.Native.Nat.{_<_};
+ghost use Rattle.sets.specs.Sets.{single};
 ghost use Rattle.seats.specs.Images.{distance};
 
 // MinRole and MaxRole, as a set.
 pub const ENDS: u64 = 3;
+
+// The set whose only member is n, by a shift: saving and loading make one for each entry.
+pub fn only(n: usize) -> u64
+    requires { ⌜ n < 64 ⌝ }
+    ensures { λ r. ⌜ r ≡ single n ⌝ }
+{
+    1u64 << n
+}
 
 // The distance from an image's end back to its start.
 pub fn distance(roles: usize, seats: usize, conflicts: usize) -> usize

@@ -5,7 +5,7 @@ ghost use Prim.Native.Nat.{_+_, _*_, _≤_, _<_};
 ghost use lib.ListN.{length};
 ghost use lib.Dec.{leb};
 ghost use Rattle.sets.specs.Counting.{lowest};
-ghost use Rattle.sets.specs.Sets.{single, included};
+ghost use Rattle.sets.specs.Sets.{included};
 ghost use Rattle.graph.specs.Graph.{role-count, max-role, ordinary, effective};
 ghost use Rattle.graph.specs.Refusing.{passed, verdict};
 ghost use Rattle.graph.specs.Refusing as refusing;
@@ -24,6 +24,7 @@ use crate::endian::wide;
 use crate::endian::word;
 use crate::layout::ENDS;
 use crate::layout::distance;
+use crate::layout::only;
 use crate::searches::pair_seat;
 use graph::Refusal;
 use graph::refusing::empty_role;
@@ -43,14 +44,6 @@ struct Keys {
 struct Contents {
     state: State,
     sound: bool,
-}
-
-// The set whose only member is n, by a shift, since the readers make one for each entry.
-fn only(n: usize) -> u64
-    requires { ⌜ n < 64 ⌝ }
-    ensures { λ r. ⌜ r ≡ single n ⌝ }
-{
-    1u64 << n
 }
 
 // Whether a table's key is from low on and a number below 64, and its set is from least on and inside what is allowed.

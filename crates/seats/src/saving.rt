@@ -19,6 +19,7 @@ ghost use Rattle.seats.specs.ImageWork.{Wrote, table-entries, row-entrie
 use crate::Filled;
 use crate::layout::ENDS;
 use crate::layout::distance;
+use crate::layout::only;
 use graph::Refusal;
 
 // The n bytes of x, little-endian, at a place; gives the place behind them.
@@ -81,7 +82,7 @@ fn row(conflicts: &[u64; 64], lower: usize) -> u64
     requires { ⌜ lower < privilege-count ⌝ }
     ensures { λ r. ⌜ r ≡ collect privilege-count (conflict (now (conflicts .entry)) lower) ⌝ }
 {
-    let own = sets::single(lower);
+    let own = only(lower);
     let not_higher = sets::union(own, own - 1);
     sets::difference(conflicts[lower], not_higher)
 }
@@ -117,7 +118,7 @@ fn occupied(seats: &[u64; 64]) -> u64
 {
     let mut found: u64 = 0;
     for i in 0..64usize {
-        let one = sets::when(seats[i] != 0, sets::single(i));
+        let one = sets::when(seats[i] != 0, only(i));
         found = sets::union(one, found);
     }
     found

@@ -6,8 +6,6 @@ use mathlib.Core.Path.{_≡_, refl, ap, ap₂, _∙_}
 use Prim.Native.Nat.{ℕ, _+_, _-_, _≤_, _<_}
 use native.Mathlib.Numerals.{add-one}
 use native.Mathlib.Omega.{arith}
-use lib.Dec.{ltb}
-use borrow.Author.Tests.{lt-ltb}
 use Rattle.sets.specs.Sets.{single, when, union, collect}
 use Rattle.graph.specs.Tables.{at}
 use Rattle.seats.proofs.Stores.{filled}
@@ -15,9 +13,9 @@ use Rattle.seats.proofs.saving.occupied.Statement.{statement}
 use Rattle.seats.proofs.saving.occupied.Tie as tie
 
 -- With one more number looked at, the collected ones are those of before and, where it passes, that number.
-grown : (f : ℕ → Bool) (i : ℕ) {found one next : ℕ} → i < 64 → found ≡ collect i f → one ≡ when (f i) (when (ltb i 64) (single i)) → next ≡ union one found → next ≡ collect (i + 1) f
-unfolding collect when
-grown f i h e o q = rw add-one (q ∙ ap₂ union (rw (lt-ltb i 64 h) at o) e)
+grown : (f : ℕ → Bool) (i : ℕ) {found one next : ℕ} → found ≡ collect i f → one ≡ when (f i) (single i) → next ≡ union one found → next ≡ collect (i + 1) f
+unfolding collect
+grown f i e o q = rw add-one (q ∙ ap₂ union o e)
 
 abbrev Inv-loop : tie.InvT-loop
 Inv-loop seats found₀ i₀ found i = (i ≤ 64) × (found ≡ collect i (filled seats))
@@ -35,8 +33,8 @@ mul-when c = search needs
 element-copy-out-when : tie.Need-element-copy-out-when Inv-loop μ-loop
 element-copy-out-when c = search needs
 
-single-requires : tie.Need-single-requires Inv-loop μ-loop
-single-requires c κs = search needs
+only-requires : tie.Need-only-requires Inv-loop μ-loop
+only-requires c κs = search needs
 
 when-requires : tie.Need-when-requires Inv-loop μ-loop
 when-requires c κs = search needs
@@ -55,7 +53,7 @@ unfolding at
 loop-again c =
     let b = c .before .before .before .before in
     let f = filled (b .before .before .args .seats .now) in
-    (search needs, grown f _ (b .loop-test .taken) (b .before .loop .inv .1) (c .before .when .ensures ∙ ap (when (f (b .before .loop .i))) (c .before .before .single .ensures)) (c .union .ensures))
+    (search needs, grown f _ (b .before .loop .inv .1) (c .before .when .ensures ∙ ap (when (f (b .before .loop .i))) (c .before .before .only .ensures)) (c .union .ensures))
 
 returns : tie.Need-returns Inv-loop μ-loop
 returns c =
@@ -71,7 +69,7 @@ occupied-spec =
     loop-holds
     mul-when
     element-copy-out-when
-    single-requires
+    only-requires
     when-requires
     union-requires
     add-i

@@ -1,7 +1,7 @@
 -- `seats::saving::row` meets its contract: taking out a number and those below it leaves the members above it.
 -- Assumes nothing.
 use borrow.Author.Needs.{needs}
-use mathlib.Core.Path.{_≡_, sym, ap, ap₂, _∙_}
+use mathlib.Core.Path.{_≡_, refl, sym, ap, ap₂, _∙_}
 use mathlib.Core.Bool.{Bool, not, _&&_, _||_, and-comm}
 use mathlib.Core.List.{List}
 use Prim.Native.Nat.{ℕ, zero, suc, _-_, _^_, _/_, _%_, _<_}
@@ -11,7 +11,7 @@ use native.Mathlib.Omega.{arith}
 use lib.Dec.{eqb, ltb, leb·suc-suc}
 use lib.Pow.{pow-pos}
 use borrow.Author.Tests.{eq-eqb, ne-eqb, lt-ltb, le-ltb}
-use Rattle.sets.specs.Sets.{member, single, union, difference, when, collect}
+use Rattle.sets.specs.Sets.{member, single, union, difference, collect}
 use Rattle.sets.proofs.Laws.{member-empty, member-zero, member-suc, member-single, member-union, member-difference, member-collect, extensional, collect-lt}
 use Rattle.graph.specs.Tables.{at}
 use Rattle.graph.specs.Conflicts.{conflict}
@@ -57,15 +57,15 @@ higher C k r h e =
     ∙ and-comm (member n (at C k)) (ltb k n)
     ∙ sym (member-collect n 64 (conflict C k) ∙ ap (λ (b : Bool). b && conflict C k n) (lt-ltb n 64 l)))
 
-alone : (k : ℕ) → k < 64 → when (ltb k 64) (single k) ≡ 2 ^ k
-unfolding when single
-alone k h = rw (lt-ltb k 64 h)
+alone : (k : ℕ) → single k ≡ 2 ^ k
+unfolding single
+alone k = refl
 
-single-requires : tie.Need-single-requires
-single-requires c κs = search needs
+only-requires : tie.Need-only-requires
+only-requires c κs = search needs
 
 sub-union : tie.Need-sub-union
-sub-union c = let e = c .single .ensures ∙ alone _ (c .before .pre) in let p = pow-pos (c .before .args .lower) in omega arith
+sub-union c = let e = c .only .ensures ∙ alone _ in let p = pow-pos (c .before .args .lower) in omega arith
 
 union-requires : tie.Need-union-requires
 union-requires c κs = search needs
@@ -84,14 +84,14 @@ unfolding at
 returns c =
     let b = c .before .before in
     let s = b .before .before in
-    let e = b .before .single .ensures ∙ alone _ (s .pre) in
+    let e = b .before .only .ensures ∙ alone _ in
     higher (s .args .conflicts .now) (s .args .lower) _ (search needs) (c .difference .ensures ∙ rw (b .union .ensures, e))
 
 pub row-spec : {M : Type 1} → statement M
 row-spec =
     tie.close
     (tie.spec
-    single-requires
+    only-requires
     sub-union
     union-requires
     mul-difference
