@@ -33,4 +33,6 @@ pub mod Requests
 pub mod Changing
 pub mod TapeRecords
 pub mod Feeding
+pub mod Tapes
+pub mod Readers
 pub mod Examples

@@ -6,6 +6,7 @@ pub mod Images
 pub mod Saving
 pub mod Lists
 pub mod Tape
+pub mod Places
 pub mod Reading
 pub mod Working
 pub mod ImageWork

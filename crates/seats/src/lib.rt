@@ -2,8 +2,11 @@
 pub mod deciding;
 mod endian;
 mod layout;
+pub mod lent;
 pub mod loading;
+pub mod reader;
 pub mod records;
+pub mod running;
 pub mod saving;
 mod searches;
 pub mod seating;

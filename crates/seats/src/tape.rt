@@ -1,7 +1,7 @@
 // A tape fed in parts: the records of a part run from a state on, their lines written into a lent buffer.
 ghost use mathlib.Core.Path.{_≡_};
 ghost use mathlib.Core.Bool.{_&&_};
-ghost use Prim.Native.Nat.{min, _+_, _*_, _/_, _^_, _≤_, _<_};
+ghost use Prim.Native.Nat.{_+_, _*_, _/_, _^_, _≤_, _<_};
 ghost use lib.Dec.{leb, ltb};
 ghost use lib.ListN.{length};
 ghost use Rattle.seats.specs.Bytes.{fill};
@@ -12,7 +12,8 @@ ghost use Rattle.seats.specs.Reading.{read-state, read-fed};
 use crate::Fed;
 use crate::Filled;
 use crate::State;
-use crate::stepping;
+use crate::reader::is_end;
+use crate::running::turn;
 use crate::text;
 use graph::Refusal;
 
@@ -41,17 +42,6 @@ fn record_count(bytes: usize) -> usize
     bytes / RECORD + (bytes % RECORD + 31) / RECORD
 }
 
-// Where the record ends that starts at a place of so many bytes.
-fn record_end(start: usize, bytes: usize) -> usize
-    requires { ⌜ start ≤ bytes ⌝ }
-    ensures { λ r. ⌜ r ≡ min (start + record-length) bytes ⌝ }
-{
-    if bytes - start < RECORD {
-        return bytes;
-    }
-    start + RECORD
-}
-
 // Whether n records more can be fed: the room is enough for their lines, and a word for their count.
 fn can_feed(count: u64, n: usize, room: usize) -> bool
     ensures { λ r. ⌜ r ≡ (leb (longest-line * n) room && ltb (count + n) (2 ^ 64)) ⌝ }
@@ -67,33 +57,22 @@ fn run(state: State, count: u64, part: &[u8], buffer: &mut [u8]) -> Fed
     requires { ⌜ (longest-line * length (records (now part)) ≤ length (now buffer)) × (count + length (records (now part)) < 2 ^ 64) ⌝ }
     ensures { λ r. let f = fed (read-state state) count (now (part .entry)) in ⌜ read-fed r (now (buffer .exit)) ≡ (fill 9 (f .0) (now (buffer .entry)), f .1) ⌝ }
 {
-    let mut roles = state.roles;
-    let mut sets = state.sets;
-    let mut conflicts = state.conflicts;
-    let mut seats = state.seats;
+    let mut state = state;
     let mut index = count;
     let mut place: usize = 0;
-    let mut start: usize = 0;
-    while start < part.len() {
-        let next = record_end(start, part.len());
-        let bytes = &part[start..next];
-        let taken = stepping::take(roles, &mut sets, &mut conflicts, &mut seats, bytes);
-        let answer = taken.answer;
-        roles = taken.roles;
+    let mut at: usize = 0;
+    while !is_end(part, at) {
+        let next = turn(state, part, at);
+        let answer = next.answer;
+        state = next.state;
+        at = next.at;
         index += 1;
         place = text::put_line(buffer, place, index, answer);
-        start = next;
     }
-    let after = State {
-        roles,
-        sets,
-        conflicts,
-        seats,
-    };
     Fed {
         filled: Filled::Written(place),
         count: index,
-        state: after,
+        state,
     }
 }
 

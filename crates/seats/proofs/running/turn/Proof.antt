@@ -44,39 +44,39 @@ use denote.Triple.Spec.{Meets, tripleOf}
 use denote.Triple.Table.{entered, cited}
 use denote.Triple.Walked.{says, Stays, stay-none, stay-none-slice, walkOf, AllGo, goes-none, goes-none-slice, Walks, ends-at, walked, walk-meets}
 use denote.Exit.{yes}
 use Rattle.seats.specs.Records.{step}
 use Rattle.seats.specs.Reading.{read-state}
 use Rattle.seats.specs.Promises.{StepPromise}
 use Rattle.seats.specs.declared.State.{State}
 use Rattle.seats.specs.declared.Answer.{Answer}
 use Rattle.seats.proofs.State as K
 use Rattle.seats.proofs.State.Laws as K′
 use Rattle.seats.proofs.Answer as N
 use Rattle.seats.proofs.Answer.Laws as N′
-use Rattle.sitting.specs.Places.{record-at, record-end}
-use Rattle.sitting.specs.declared.reader.TapeReader.{TapeReader}
-use Rattle.sitting.specs.declared.running.Turned.{Turned}
-use Rattle.sitting.proofs.Readers.{Reader, Bytes, BytesOwn, Token, slice, reader, mach, handed}
-use Rattle.sitting.proofs.reader.TapeReader as T
-use Rattle.sitting.proofs.reader.TapeReader.Laws as T′
-use Rattle.sitting.proofs.running.Turned as U
-use Rattle.sitting.proofs.running.Turned.Laws as U′
-use Rattle.sitting.proofs.reader.TapeReader.next as next
-use Rattle.sitting.proofs.reader.TapeReader.next.Symbol as next-def
-use Rattle.sitting.proofs.reader.TapeReader.next.Symbol.{name as #next}
-use Rattle.sitting.proofs.reader.TapeReader.next.Met as next-thm
-use Rattle.sitting.proofs.reader.TapeReader.moved as moved
-use Rattle.sitting.proofs.reader.TapeReader.moved.Symbol as moved-def
-use Rattle.sitting.proofs.reader.TapeReader.moved.Symbol.{name as #moved}
-use Rattle.sitting.proofs.reader.TapeReader.moved.Met as moved-thm
-use Rattle.sitting.proofs.lent.call as call
-use Rattle.sitting.proofs.lent.call.Symbol as call-def
-use Rattle.sitting.proofs.lent.call.Symbol.{name as #call}
-use Rattle.sitting.proofs.lent.call.Met as call-thm
-use Rattle.sitting.proofs.running.turn.Key.{name as #turn}
-use Rattle.sitting.proofs.running.turn as turn
-use Rattle.sitting.proofs.running.turn.Statement as stated
-use Rattle.sitting.proofs.running.turn.Code as code
+use Rattle.seats.specs.Places.{record-at, record-end}
+use Rattle.seats.specs.declared.reader.TapeReader.{TapeReader}
+use Rattle.seats.specs.declared.running.Turned.{Turned}
+use Rattle.seats.proofs.Readers.{Reader, Bytes, BytesOwn, Token, slice, reader, mach, handed}
+use Rattle.seats.proofs.reader.TapeReader as T
+use Rattle.seats.proofs.reader.TapeReader.Laws as T′
+use Rattle.seats.proofs.running.Turned as U
+use Rattle.seats.proofs.running.Turned.Laws as U′
+use Rattle.seats.proofs.reader.TapeReader.next as next
+use Rattle.seats.proofs.reader.TapeReader.next.Symbol as next-def
+use Rattle.seats.proofs.reader.TapeReader.next.Symbol.{name as #next}
+use Rattle.seats.proofs.reader.TapeReader.next.Met as next-thm
+use Rattle.seats.proofs.reader.TapeReader.moved as moved
+use Rattle.seats.proofs.reader.TapeReader.moved.Symbol as moved-def
+use Rattle.seats.proofs.reader.TapeReader.moved.Symbol.{name as #moved}
+use Rattle.seats.proofs.reader.TapeReader.moved.Met as moved-thm
+use Rattle.seats.proofs.lent.call as call
+use Rattle.seats.proofs.lent.call.Symbol as call-def
+use Rattle.seats.proofs.lent.call.Symbol.{name as #call}
+use Rattle.seats.proofs.lent.call.Met as call-thm
+use Rattle.seats.proofs.running.turn.Key.{name as #turn}
+use Rattle.seats.proofs.running.turn as turn
+use Rattle.seats.proofs.running.turn.Statement as stated
+use Rattle.seats.proofs.running.turn.Code as code
 
 abbrev stayed : Stays (turn.ended .signature .params) (turn.ended .kept)
 stayed = (stay-none (λ _. K.the-row) yes, (stay-none-slice (0 ∷ []) tt (plain (λ _. u8)) yes, (stay-none (λ _. usize) yes, tt)))
@@ -273,6 +273,6 @@ turn-spec 𝓤 H 𝓜 𝓖 𝓡 =
     entered 𝓤 H (tripleOf 𝓤 H (𝓖 .A) turn.signature (turn.spec 𝓤 H (𝓖 .A) (𝓜 .mem) (𝓡 .run)))
     (tables 𝓤 H 𝓜 𝓡 code.env .C) (tables 𝓤 H 𝓜 𝓡 code.env .Λ) #turn code.function (code.unfolded 𝓤 H 𝓜 𝓡)
     (meets 𝓤 H (𝓖 .A) (givenOf 𝓤 H 𝓜 𝓖) (𝓜 .mem) (𝓡 .run) (tablesOf 𝓤 H 𝓜 (tables 𝓤 H 𝓜 𝓡 code.env))
-    (cited 𝓤 H (Next 𝓤 H (𝓖 .A) (𝓜 .mem) (𝓡 .run)) 𝓜 𝓡 code.env #next next-def.routine code.calls-sitting·reader·TapeReader·next (next-thm.met 𝓤 H 𝓜 𝓖 𝓡))
-    (cited 𝓤 H (Call 𝓤 H (𝓖 .A) (𝓜 .mem) (𝓡 .run)) 𝓜 𝓡 code.env #call call-def.routine code.calls-sitting·lent·call (call-thm.met 𝓤 H 𝓜 𝓖 𝓡))
-    (cited 𝓤 H (Moved 𝓤 H (𝓖 .A) (𝓜 .mem) (𝓡 .run)) 𝓜 𝓡 code.env #moved moved-def.routine code.calls-sitting·reader·TapeReader·moved (moved-thm.met 𝓤 H 𝓜 𝓖 𝓡)))
+    (cited 𝓤 H (Next 𝓤 H (𝓖 .A) (𝓜 .mem) (𝓡 .run)) 𝓜 𝓡 code.env #next next-def.routine code.calls-seats·reader·TapeReader·next (next-thm.met 𝓤 H 𝓜 𝓖 𝓡))
+    (cited 𝓤 H (Call 𝓤 H (𝓖 .A) (𝓜 .mem) (𝓡 .run)) 𝓜 𝓡 code.env #call call-def.routine code.calls-seats·lent·call (call-thm.met 𝓤 H 𝓜 𝓖 𝓡))
+    (cited 𝓤 H (Moved 𝓤 H (𝓖 .A) (𝓜 .mem) (𝓡 .run)) 𝓜 𝓡 code.env #moved moved-def.routine code.calls-seats·reader·TapeReader·moved (moved-thm.met 𝓤 H 𝓜 𝓖 𝓡)))

@@ -5,17 +5,17 @@ use mathlib.Core.Bool.{Bool, true, false, not, cond}
 use mathlib.Core.List.{List, [], _∷_}
 use Prim.Native.Nat.{ℕ, zero, suc, _+_, _-_, _≤_, _<_, min}
 use native.Mathlib.Omega.{arith}
-use native.Mathlib.Nat.{not-suc-le-zero}
 use lib.Dec.{leb}
 use lib.ListN.{length, take, drop, length-drop, drop-of-length-le}
 use lib.Seq.{take-all, take-nil, drop-drop}
 use borrow.Author.Tests.{leb-true, leb-false, not-true, not-false}
 use Rattle.lists.specs.Runs.{run}
 use Rattle.seats.specs.Seats.{State}
 use Rattle.seats.specs.Records.{step}
 use Rattle.seats.specs.Lists.{end}
-use Rattle.seats.specs.Tape.{records-upto, records}
-use Rattle.sitting.specs.Places.{is-end, record-at, record-end, records-from}
+use Rattle.seats.specs.Tape.{records}
+use Rattle.seats.proofs.TapeRecords.{records-first, records-none}
+use Rattle.seats.specs.Places.{is-end, record-at, record-end, records-from}
 
 -- What a test of the place says of it, the test being negated.
 pub before-end : (tape : List ℕ) (at : ℕ) {b : Bool} → b ≡ is-end tape at → not b ≡ true → at < length tape
@@ -63,29 +63,9 @@ part-none tape at e p h =
     let out : length tape ≤ at = omega arith in
     ap (λ (n : ℕ). take n (drop e tape)) z ∙ sym (ap (take 32) (drop-of-length-le tape {i = at} out) ∙ take-nil 32)
 
--- As many as there are bytes are enough.
-enough : (m n : ℕ) (l : List ℕ) → length l ≤ m → length l ≤ n → records-upto m l ≡ records-upto n l
-unfolding records-upto
-enough zero zero l h k = refl
-enough zero (suc n) [] h k = refl
-enough zero (suc n) (x ∷ l) h k = absurd (not-suc-le-zero h)
-enough (suc m) zero [] h k = refl
-enough (suc m) zero (x ∷ l) h k = absurd (not-suc-le-zero k)
-enough (suc m) (suc n) [] h k = refl
-enough (suc m) (suc n) (x ∷ l) h k =
-    ap (λ (rest : List (List ℕ)). take 32 (x ∷ l) ∷ rest) (enough m n (drop 32 (x ∷ l)) (rw length-drop (omega arith)) (rw length-drop (omega arith)))
-
--- A list that is not empty has its first record, and those of what is left.
-records-first : (l : List ℕ) → 0 < length l → records l ≡ take 32 l ∷ records (drop 32 l)
-unfolding records-upto records
-records-first [] h = absurd (not-suc-le-zero h)
-records-first (x ∷ l) h =
-    ap (λ (rest : List (List ℕ)). take 32 (x ∷ l) ∷ rest) (enough (length l) (length (drop 32 (x ∷ l))) (drop 32 (x ∷ l)) (rw length-drop (omega arith)) (rw length-drop (omega arith)))
-
 -- No record is left at the end.
-pub records-none : (tape : List ℕ) (at : ℕ) → length tape ≤ at → records (drop at tape) ≡ []
-unfolding records-upto records
-records-none tape at h = ap records (drop-of-length-le tape {i = at} h)
+pub records-ended : (tape : List ℕ) (at : ℕ) → length tape ≤ at → records (drop at tape) ≡ []
+records-ended tape at h = records-none (drop at tape) (rw length-drop (omega arith))
 
 -- Before the end the record there is left, and those from where it ends.
 pub records-more : (tape : List ℕ) (at : ℕ) → at < length tape → records (drop at tape) ≡ record-at tape at ∷ records (drop (record-end tape at) tape)
@@ -96,12 +76,12 @@ records-more tape at h =
 -- Reading on from a place gives the records that are left.
 pub reads-left : (n : ℕ) (tape : List ℕ) (at : ℕ) → length tape - at ≤ n → records-from n tape at ≡ records (drop at tape)
 unfolding records-from
-reads-left zero tape at h = sym (records-none tape at (omega arith))
+reads-left zero tape at h = sym (records-ended tape at (omega arith))
 reads-left (suc n) tape at h = go (is-end tape at) refl (λ k. reads-left n tape (record-end tape at) (omega arith))
   where
     go : (b : Bool) → is-end tape at ≡ b → (at < length tape → records-from n tape (record-end tape at) ≡ records (drop (record-end tape at) tape))
         → cond b [] (record-at tape at ∷ records-from n tape (record-end tape at)) ≡ records (drop at tape)
-    go true e later = sym (records-none tape at (leb-true (length tape) at e))
+    go true e later = sym (records-ended tape at (leb-true (length tape) at e))
     go false e later =
         let k = leb-false (length tape) at e in
         ap (λ (l : List (List ℕ)). record-at tape at ∷ l) (later k) ∙ sym (records-more tape at k)

@@ -5,15 +5,15 @@ use mathlib.Core.Path.{_≡_, refl, sym, ap, _∙_}
 use Prim.Native.Nat.{ℕ, _-_}
 use native.Mathlib.Omega.{arith}
 use lib.ListN.{length, drop}
 use Rattle.seats.specs.Seats.{State}
 use Rattle.seats.specs.Calls.{Answer}
 use Rattle.seats.specs.Reading.{read-state}
 use Rattle.seats.specs.Lists.{end}
 use Rattle.seats.specs.Tape.{records}
-use Rattle.sitting.specs.Places.{record-at, record-end}
-use Rattle.sitting.proofs.Tapes.{before-end, at-end, records-none, records-more, end-none, end-more}
-use Rattle.sitting.proofs.running.run.Statement.{statement}
-use Rattle.sitting.proofs.running.run.Tie as tie
+use Rattle.seats.specs.Places.{record-at, record-end}
+use Rattle.seats.proofs.Tapes.{before-end, at-end, records-ended, records-more, end-none, end-more}
+use Rattle.seats.proofs.running.run.Statement.{statement}
+use Rattle.seats.proofs.running.run.Tie as tie
 
 abbrev Inv-loop : tie.InvT-loop
 Inv-loop tape state₀ at₀ state at = end (read-state state) (records (drop at tape)) ≡ end (read-state state₀) (records tape)
@@ -54,7 +54,7 @@ returns c =
     let l = c .before .before in
     let t = l .before .before .args .tape .now in
     let h = at-end t (l .loop .at) (c .before .is-end .ensures) (c .if1 .left) in
-    sym (ap (end (read-state (l .loop .state))) (records-none t (l .loop .at) h) ∙ end-none (read-state (l .loop .state))) ∙ l .loop .inv
+    sym (ap (end (read-state (l .loop .state))) (records-ended t (l .loop .at) h) ∙ end-none (read-state (l .loop .state))) ∙ l .loop .inv
 
 pub run-spec : {M : Type 1} → statement M
 run-spec = tie.close (tie.spec Inv-loop μ-loop loop-holds is-end-requires turn-requires loop-less loop-again returns)

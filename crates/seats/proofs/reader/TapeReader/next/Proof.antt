@@ -36,19 +36,19 @@ use denote.Triple.Spec.{Meets, tripleOf}
 use denote.Triple.Table.{entered, cited}
 use denote.Triple.Walked.{says, Stays, stay-none, walkOf, goes-none, Walks, ends-at, walked, walk-meets}
 use denote.Exit.{yes}
-use Rattle.sitting.specs.Places.{record-at}
-use Rattle.sitting.specs.declared.reader.TapeReader.{TapeReader}
-use Rattle.sitting.proofs.Readers.{Reader, Bytes, ReaderOwn, Token, mach, parts, apart}
-use Rattle.sitting.proofs.reader.TapeReader as T
-use Rattle.sitting.proofs.reader.TapeReader.Laws as T′
-use Rattle.sitting.proofs.reader.record_at as callee
-use Rattle.sitting.proofs.reader.record_at.Symbol as callee-def
-use Rattle.sitting.proofs.reader.record_at.Symbol.{name as #record-at}
-use Rattle.sitting.proofs.reader.record_at.Met as callee-thm
-use Rattle.sitting.proofs.reader.TapeReader.next.Key.{name as #next}
-use Rattle.sitting.proofs.reader.TapeReader.next as next
-use Rattle.sitting.proofs.reader.TapeReader.next.Statement as stated
-use Rattle.sitting.proofs.reader.TapeReader.next.Code as code
+use Rattle.seats.specs.Places.{record-at}
+use Rattle.seats.specs.declared.reader.TapeReader.{TapeReader}
+use Rattle.seats.proofs.Readers.{Reader, Bytes, ReaderOwn, Token, mach, parts, apart}
+use Rattle.seats.proofs.reader.TapeReader as T
+use Rattle.seats.proofs.reader.TapeReader.Laws as T′
+use Rattle.seats.proofs.reader.record_at as callee
+use Rattle.seats.proofs.reader.record_at.Symbol as callee-def
+use Rattle.seats.proofs.reader.record_at.Symbol.{name as #record-at}
+use Rattle.seats.proofs.reader.record_at.Met as callee-thm
+use Rattle.seats.proofs.reader.TapeReader.next.Key.{name as #next}
+use Rattle.seats.proofs.reader.TapeReader.next as next
+use Rattle.seats.proofs.reader.TapeReader.next.Statement as stated
+use Rattle.seats.proofs.reader.TapeReader.next.Code as code
 
 abbrev stayed : Stays (next.ended .signature .params) (next.ended .kept)
 stayed = (stay-none Reader yes, tt)
@@ -125,4 +125,4 @@ next-spec 𝓤 H 𝓜 𝓖 𝓡 =
     entered 𝓤 H (tripleOf 𝓤 H (𝓖 .A) next.signature (next.spec 𝓤 H (𝓖 .A) (𝓜 .mem) (𝓡 .run)))
     (tables 𝓤 H 𝓜 𝓡 code.env .C) (tables 𝓤 H 𝓜 𝓡 code.env .Λ) #next code.function (code.unfolded 𝓤 H 𝓜 𝓡)
     (meets 𝓤 H (𝓖 .A) (givenOf 𝓤 H 𝓜 𝓖) (𝓜 .mem) (𝓡 .run) (tablesOf 𝓤 H 𝓜 (tables 𝓤 H 𝓜 𝓡 code.env))
-    (cited 𝓤 H (RecordAt 𝓤 H (𝓖 .A) (𝓜 .mem) (𝓡 .run)) 𝓜 𝓡 code.env #record-at callee-def.routine code.calls-sitting·reader·record-at (callee-thm.met 𝓤 H 𝓜 𝓖 𝓡)))
+    (cited 𝓤 H (RecordAt 𝓤 H (𝓖 .A) (𝓜 .mem) (𝓡 .run)) 𝓜 𝓡 code.env #record-at callee-def.routine code.calls-seats·reader·record-at (callee-thm.met 𝓤 H 𝓜 𝓖 𝓡)))

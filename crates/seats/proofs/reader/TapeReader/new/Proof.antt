@@ -31,11 +31,11 @@ use denote.Triple.Spec.{Meets, tripleOf}
 use denote.Triple.Table.{entered}
 use denote.Triple.Walked.{says, Stays, stay-none-slice, walkOf, goes-none-slice, Walks, ends-at, walked, walk-meets}
 use denote.Exit.{yes}
-use Rattle.sitting.proofs.Readers.{Bytes, BytesOwn, Token, slice, reader, mach, together}
-use Rattle.sitting.proofs.reader.TapeReader.new.Key.{name as #new}
-use Rattle.sitting.proofs.reader.TapeReader.new as new
-use Rattle.sitting.proofs.reader.TapeReader.new.Statement as stated
-use Rattle.sitting.proofs.reader.TapeReader.new.Code as code
+use Rattle.seats.proofs.Readers.{Bytes, BytesOwn, Token, slice, reader, mach, together}
+use Rattle.seats.proofs.reader.TapeReader.new.Key.{name as #new}
+use Rattle.seats.proofs.reader.TapeReader.new as new
+use Rattle.seats.proofs.reader.TapeReader.new.Statement as stated
+use Rattle.seats.proofs.reader.TapeReader.new.Code as code
 
 abbrev stayed : Stays (new.ended .signature .params) (new.ended .kept)
 stayed = (stay-none-slice (0 ∷ []) tt (plain (λ _. u8)) yes, tt)

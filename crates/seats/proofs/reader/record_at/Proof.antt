@@ -2,9 +2,9 @@
 -- Assumes nothing.
 use borrow.Author.Needs.{needs}
 use native.Mathlib.Omega.{arith}
-use Rattle.sitting.proofs.Tapes.{part-is, part-none}
-use Rattle.sitting.proofs.reader.record_at.Statement.{statement}
-use Rattle.sitting.proofs.reader.record_at.Tie as tie
+use Rattle.seats.proofs.Tapes.{part-is, part-none}
+use Rattle.seats.proofs.reader.record_at.Statement.{statement}
+use Rattle.seats.proofs.reader.record_at.Tie as tie
 
 record-end-requires : tie.Need-record-end-requires
 record-end-requires c κs = search needs

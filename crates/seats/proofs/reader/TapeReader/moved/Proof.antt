@@ -37,19 +37,19 @@ use denote.Triple.Spec.{Meets, tripleOf}
 use denote.Triple.Table.{entered, cited}
 use denote.Triple.Walked.{says, Stays, stay-none, walkOf, goes-none, Walks, ends-at, walked, walk-meets}
 use denote.Exit.{yes}
-use Rattle.sitting.specs.Places.{record-end}
-use Rattle.sitting.specs.declared.reader.TapeReader.{TapeReader}
-use Rattle.sitting.proofs.Readers.{Reader, Bytes, ReaderOwn, Token, reader, mach, parts, twice, at-place, apart}
-use Rattle.sitting.proofs.reader.TapeReader as T
-use Rattle.sitting.proofs.reader.TapeReader.Laws as T′
-use Rattle.sitting.proofs.reader.record_end as callee
-use Rattle.sitting.proofs.reader.record_end.Symbol as callee-def
-use Rattle.sitting.proofs.reader.record_end.Symbol.{name as #record-end}
-use Rattle.sitting.proofs.reader.record_end.Met as callee-thm
-use Rattle.sitting.proofs.reader.TapeReader.moved.Key.{name as #moved}
-use Rattle.sitting.proofs.reader.TapeReader.moved as moved
-use Rattle.sitting.proofs.reader.TapeReader.moved.Statement as stated
-use Rattle.sitting.proofs.reader.TapeReader.moved.Code as code
+use Rattle.seats.specs.Places.{record-end}
+use Rattle.seats.specs.declared.reader.TapeReader.{TapeReader}
+use Rattle.seats.proofs.Readers.{Reader, Bytes, ReaderOwn, Token, reader, mach, parts, twice, at-place, apart}
+use Rattle.seats.proofs.reader.TapeReader as T
+use Rattle.seats.proofs.reader.TapeReader.Laws as T′
+use Rattle.seats.proofs.reader.record_end as callee
+use Rattle.seats.proofs.reader.record_end.Symbol as callee-def
+use Rattle.seats.proofs.reader.record_end.Symbol.{name as #record-end}
+use Rattle.seats.proofs.reader.record_end.Met as callee-thm
+use Rattle.seats.proofs.reader.TapeReader.moved.Key.{name as #moved}
+use Rattle.seats.proofs.reader.TapeReader.moved as moved
+use Rattle.seats.proofs.reader.TapeReader.moved.Statement as stated
+use Rattle.seats.proofs.reader.TapeReader.moved.Code as code
 
 abbrev stayed : Stays (moved.ended .signature .params) (moved.ended .kept)
 stayed = (stay-none Reader yes, tt)
@@ -126,4 +126,4 @@ moved-spec 𝓤 H 𝓜 𝓖 𝓡 =
     entered 𝓤 H (tripleOf 𝓤 H (𝓖 .A) moved.signature (moved.spec 𝓤 H (𝓖 .A) (𝓜 .mem) (𝓡 .run)))
     (tables 𝓤 H 𝓜 𝓡 code.env .C) (tables 𝓤 H 𝓜 𝓡 code.env .Λ) #moved code.function (code.unfolded 𝓤 H 𝓜 𝓡)
     (meets 𝓤 H (𝓖 .A) (givenOf 𝓤 H 𝓜 𝓖) (𝓜 .mem) (𝓡 .run) (tablesOf 𝓤 H 𝓜 (tables 𝓤 H 𝓜 𝓡 code.env))
-    (cited 𝓤 H (RecordEnd 𝓤 H (𝓖 .A) (𝓜 .mem) (𝓡 .run)) 𝓜 𝓡 code.env #record-end callee-def.routine code.calls-sitting·reader·record-end (callee-thm.met 𝓤 H 𝓜 𝓖 𝓡)))
+    (cited 𝓤 H (RecordEnd 𝓤 H (𝓖 .A) (𝓜 .mem) (𝓡 .run)) 𝓜 𝓡 code.env #record-end callee-def.routine code.calls-seats·reader·record-end (callee-thm.met 𝓤 H 𝓜 𝓖 𝓡)))

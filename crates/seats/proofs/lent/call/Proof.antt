@@ -41,24 +41,24 @@ use denote.Triple.Spec.{Meets, tripleOf}
 use denote.Triple.Table.{entered, cited}
 use denote.Triple.Walked.{says, Stays, stay-ref, stay-none-slice, walkOf, AllGo, goes-ref, goes-none-slice, Walks, ends-at, walked, walk-meets}
 use denote.Exit.{yes}
 use Rattle.seats.specs.Promises.{StepPromise}
 use Rattle.seats.specs.declared.State.{State}
 use Rattle.seats.specs.declared.Stepped.{Stepped}
 use Rattle.seats.specs.declared.Answer.{Answer}
 use Rattle.seats.proofs.State as K
 use Rattle.seats.proofs.State.Laws as K′
 use Rattle.seats.proofs.Stepped as S
 use Rattle.seats.proofs.Stepped.Laws as S′
 use Rattle.seats.proofs.Answer as N
 use Rattle.seats.proofs.Answer.Laws as N′
 use Rattle.seats.proofs.stepping.step as step
 use Rattle.seats.proofs.stepping.step.Symbol as step-def
 use Rattle.seats.proofs.stepping.step.Symbol.{name as #step}
 use Rattle.seats.proofs.stepping.step.Met as step-thm
-use Rattle.sitting.proofs.lent.call.Key.{name as #call}
-use Rattle.sitting.proofs.lent.call as call
-use Rattle.sitting.proofs.lent.call.Statement as stated
-use Rattle.sitting.proofs.lent.call.Code as code
+use Rattle.seats.proofs.lent.call.Key.{name as #call}
+use Rattle.seats.proofs.lent.call as call
+use Rattle.seats.proofs.lent.call.Statement as stated
+use Rattle.seats.proofs.lent.call.Code as code
 
 abbrev stayed : Stays (call.ended .signature .params) (call.ended .kept)
 stayed = (stay-ref (0 ∷ []) tt (plain (λ _. K.the-row)), (stay-none-slice (1 ∷ []) tt (plain (λ _. u8)) yes, tt))

@@ -25,9 +25,9 @@ use denote.Struct.Declared.{Declared}
 use denote.Struct.Laws as LL
 use denote.Struct.Rest.{all-own, ownAt, rest, own-open, own-out, own-put, own-shut}
 use denote.Struct.Values.{Values}
-use Rattle.sitting.specs.declared.reader.TapeReader.{TapeReader}
-use Rattle.sitting.proofs.reader.TapeReader as T
-use Rattle.sitting.proofs.reader.TapeReader.Laws as T′
+use Rattle.seats.specs.declared.reader.TapeReader.{TapeReader}
+use Rattle.seats.proofs.reader.TapeReader as T
+use Rattle.seats.proofs.reader.TapeReader.Laws as T′
 
 -- The struct's type, over the signature's lifetimes.
 abbrev pub Reader : Lfts 1 → RattleType

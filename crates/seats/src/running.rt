@@ -1,15 +1,15 @@
 // The run of a tape: its records one after the other on one state.
 ghost use mathlib.Core.Path.{_≡_};
 ghost use Rattle.seats.specs.Reading.{read-state};
 ghost use Rattle.seats.specs.Lists.{end};
 ghost use Rattle.seats.specs.Tape.{records};
 ghost use Rattle.seats.specs.Promises.{StepPromise};
-ghost use Rattle.sitting.specs.Places.{record-at, record-end};
+ghost use Rattle.seats.specs.Places.{record-at, record-end};
+use crate::Answer;
+use crate::State;
 use crate::lent;
 use crate::reader;
 use crate::reader::TapeReader;
-use seats::Answer;
-use seats::State;
 
 // What the record at a place comes to: its answer, the state after it, and the place of the next record.
 pub struct Turned {

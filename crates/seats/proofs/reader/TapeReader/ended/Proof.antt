@@ -36,19 +36,19 @@ use denote.Triple.Spec.{Meets, tripleOf}
 use denote.Triple.Table.{entered, cited}
 use denote.Triple.Walked.{says, Stays, stay-none, walkOf, goes-none, Walks, ends-at, walked, walk-meets}
 use denote.Exit.{yes}
-use Rattle.sitting.specs.Places.{is-end}
-use Rattle.sitting.specs.declared.reader.TapeReader.{TapeReader}
-use Rattle.sitting.proofs.Readers.{Reader, Bytes, ReaderOwn, Token, mach, parts, apart}
-use Rattle.sitting.proofs.reader.TapeReader as T
-use Rattle.sitting.proofs.reader.TapeReader.Laws as T′
-use Rattle.sitting.proofs.reader.is_end as callee
-use Rattle.sitting.proofs.reader.is_end.Symbol as callee-def
-use Rattle.sitting.proofs.reader.is_end.Symbol.{name as #is-end}
-use Rattle.sitting.proofs.reader.is_end.Met as callee-thm
-use Rattle.sitting.proofs.reader.TapeReader.ended.Key.{name as #ended}
-use Rattle.sitting.proofs.reader.TapeReader.ended as ended
-use Rattle.sitting.proofs.reader.TapeReader.ended.Statement as stated
-use Rattle.sitting.proofs.reader.TapeReader.ended.Code as code
+use Rattle.seats.specs.Places.{is-end}
+use Rattle.seats.specs.declared.reader.TapeReader.{TapeReader}
+use Rattle.seats.proofs.Readers.{Reader, Bytes, ReaderOwn, Token, mach, parts, apart}
+use Rattle.seats.proofs.reader.TapeReader as T
+use Rattle.seats.proofs.reader.TapeReader.Laws as T′
+use Rattle.seats.proofs.reader.is_end as callee
+use Rattle.seats.proofs.reader.is_end.Symbol as callee-def
+use Rattle.seats.proofs.reader.is_end.Symbol.{name as #is-end}
+use Rattle.seats.proofs.reader.is_end.Met as callee-thm
+use Rattle.seats.proofs.reader.TapeReader.ended.Key.{name as #ended}
+use Rattle.seats.proofs.reader.TapeReader.ended as ended
+use Rattle.seats.proofs.reader.TapeReader.ended.Statement as stated
+use Rattle.seats.proofs.reader.TapeReader.ended.Code as code
 
 abbrev stayed : Stays (ended.ended .signature .params) (ended.ended .kept)
 stayed = (stay-none Reader yes, tt)
@@ -125,4 +125,4 @@ ended-spec 𝓤 H 𝓜 𝓖 𝓡 =
     entered 𝓤 H (tripleOf 𝓤 H (𝓖 .A) ended.signature (ended.spec 𝓤 H (𝓖 .A) (𝓜 .mem) (𝓡 .run)))
     (tables 𝓤 H 𝓜 𝓡 code.env .C) (tables 𝓤 H 𝓜 𝓡 code.env .Λ) #ended code.function (code.unfolded 𝓤 H 𝓜 𝓡)
     (meets 𝓤 H (𝓖 .A) (givenOf 𝓤 H 𝓜 𝓖) (𝓜 .mem) (𝓡 .run) (tablesOf 𝓤 H 𝓜 (tables 𝓤 H 𝓜 𝓡 code.env))
-    (cited 𝓤 H (IsEnd 𝓤 H (𝓖 .A) (𝓜 .mem) (𝓡 .run)) 𝓜 𝓡 code.env #is-end callee-def.routine code.calls-sitting·reader·is-end (callee-thm.met 𝓤 H 𝓜 𝓖 𝓡)))
+    (cited 𝓤 H (IsEnd 𝓤 H (𝓖 .A) (𝓜 .mem) (𝓡 .run)) 𝓜 𝓡 code.env #is-end callee-def.routine code.calls-seats·reader·is-end (callee-thm.met 𝓤 H 𝓜 𝓖 𝓡)))

@@ -1,6 +1,6 @@
 // The tape reader: a lent tape and the place of its next record, over functions of a plain slice and a number.
 ghost use mathlib.Core.Path.{_≡_};
-ghost use Rattle.sitting.specs.Places.{is-end, record-at, record-end};
+ghost use Rattle.seats.specs.Places.{is-end, record-at, record-end};
 
 // A lent tape, and the place of its next record.
 pub struct TapeReader<'a> {

@@ -1,8 +1,8 @@
 // The lent state: each call of a sitting alters it.
 ghost use Rattle.seats.specs.Promises.{StepPromise};
-use seats::Answer;
-use seats::State;
-use seats::stepping;
+use crate::Answer;
+use crate::State;
+use crate::stepping;
 
 // The step on a lent state: its answer, and the state altered.
 pub fn call(state: &mut State, bytes: &[u8]) -> Answer
