@@ -9,10 +9,10 @@ use graph::Entry;
 use seats::State;
 
 // How many words a state takes.
-pub const WORDS: usize = 193;
+pub(crate) const WORDS: usize = 193;
 
 // The table that starts at a word.
-pub fn table_at(block: &[u64], at: usize) -> [u64; 64]
+pub(crate) fn table_at(block: &[u64], at: usize) -> [u64; 64]
     requires { ⌜ at + 64 ≤ length (now block) ⌝ }
     ensures { λ r. ⌜ r ≡ table-at (now (block .entry)) at ⌝ }
 {
@@ -24,7 +24,7 @@ pub fn table_at(block: &[u64], at: usize) -> [u64; 64]
 }
 
 // The state that the first words hold.
-pub fn state_in(block: &[u64]) -> State
+pub(crate) fn state_in(block: &[u64]) -> State
     requires { ⌜ block-length ≤ length (now block) ⌝ }
     ensures { λ r. ⌜ read-state r ≡ state-in (now (block .entry)) ⌝ }
 {
@@ -40,7 +40,7 @@ pub fn state_in(block: &[u64]) -> State
 }
 
 // Writes a table, from a word on.
-pub fn put_table(block: &mut [u64], at: usize, table: &[u64; 64])
+pub(crate) fn put_table(block: &mut [u64], at: usize, table: &[u64; 64])
     requires { ⌜ at + 64 ≤ length (now block) ⌝ }
     ensures { λ _. ⌜ Wrote (now (block .entry)) at (now (table .entry)) (now (block .exit)) ⌝ }
 {
@@ -51,7 +51,7 @@ pub fn put_table(block: &mut [u64], at: usize, table: &[u64; 64])
 }
 
 // Writes a state in the place of the one that the first words hold.
-pub fn put_state(block: &mut [u64], state: State)
+pub(crate) fn put_state(block: &mut [u64], state: State)
     requires { ⌜ block-length ≤ length (now block) ⌝ }
     ensures { λ _. ⌜ now (block .exit) ≡ holding (read-state state) (now (block .entry)) ⌝ }
 {
@@ -65,7 +65,7 @@ pub fn put_state(block: &mut [u64], state: State)
 }
 
 // Stores an entry, if there is one, in the table that starts at a word.
-pub fn store_at(block: &mut [u64], at: usize, entry: Entry)
+pub(crate) fn store_at(block: &mut [u64], at: usize, entry: Entry)
     requires { ⌜ at + 64 ≤ length (now block) ⌝ }
     ensures { λ _. ⌜ now (block .exit) ≡ stored-at (now (block .entry)) at (entry .number) (entry .set) ⌝ }
 {

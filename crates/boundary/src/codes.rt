@@ -7,17 +7,17 @@ ghost use Rattle.boundary.specs.Block.{code-of};
 use seats::Answer;
 
 // The code of a block with too few words.
-pub const NO_STATE: u32 = 65535;
+pub(crate) const NO_STATE: u32 = 65535;
 
 // The code of a refusal.
-pub fn refusal_code(number: u8, place: u8) -> u32
+pub(crate) fn refusal_code(number: u8, place: u8) -> u32
     ensures { λ r. ⌜ (r ≡ code-of (refused number place)) × (r < 65536) ⌝ }
 {
     256 * (number as u32) + (place as u32)
 }
 
 // The code of an answer.
-pub fn code(answer: Answer) -> u32
+pub(crate) fn code(answer: Answer) -> u32
     ensures { λ r. ⌜ r ≡ code-of (read-answer answer) ⌝ }
 {
     match answer {

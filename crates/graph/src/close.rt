@@ -72,7 +72,7 @@ fn gather(
 }
 
 // The effective set of each role; a role that is not present has its direct privileges alone.
-pub fn close(present: u64, directs: &[u64; 64], juniors: &[u64; 64]) -> [u64; 64]
+pub(crate) fn close(present: u64, directs: &[u64; 64], juniors: &[u64; 64]) -> [u64; 64]
     requires { ⌜ Acyclic present (now juniors) ⌝ }
     ensures { λ r. ⌜ r ≡ table role-count (gathered (at (now (directs .entry))) (λ t r. spec.member t (at (now (juniors .entry)) r)) role-count) ⌝ }
 {

@@ -7,7 +7,7 @@ ghost use Rattle.graph.specs.Tables as spec;
 ghost use Rattle.graph.specs.Graph.{role-count};
 
 // The table itself, with its length.
-pub fn copied(table: &[u64; 64]) -> [u64; 64]
+pub(crate) fn copied(table: &[u64; 64]) -> [u64; 64]
     ensures { λ v. ⌜ (v ≡ now (table .entry)) × (length v ≡ 64) ⌝ }
 {
     let _whole = &table[..];
@@ -15,7 +15,7 @@ pub fn copied(table: &[u64; 64]) -> [u64; 64]
 }
 
 // In the entry of each member of into, takes the members of out away and joins those of put.
-pub fn exchange_all(table: &mut [u64; 64], into: u64, out: u64, put: u64)
+pub(crate) fn exchange_all(table: &mut [u64; 64], into: u64, out: u64, put: u64)
     ensures { λ _. ⌜ now (table .exit) ≡ spec.table role-count (λ r. union (difference (spec.at (now (table .entry)) r) (when (member r into) out)) (when (member r into) put)) ⌝ }
 {
     *table = copied(table);
@@ -28,7 +28,7 @@ pub fn exchange_all(table: &mut [u64; 64], into: u64, out: u64, put: u64)
 }
 
 // The roles present that have a among their juniors.
-pub fn seniors_in(present: u64, juniors: &[u64; 64], a: usize) -> u64
+pub(crate) fn seniors_in(present: u64, juniors: &[u64; 64], a: usize) -> u64
     ensures { λ r. ⌜ r ≡ collect role-count (λ r. member r present && member a (spec.at (now (juniors .entry)) r)) ⌝ }
 {
     let mut seniors = 0u64;

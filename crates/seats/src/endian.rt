@@ -6,14 +6,14 @@ ghost use Rattle.seats.specs.Bytes.{number-at};
 ghost use Rattle.seats.specs.Working.{quad-of};
 
 // A byte as a word, with its bound.
-pub fn wide(x: u8) -> u64
+pub(crate) fn wide(x: u8) -> u64
     ensures { λ r. ⌜ (r ≡ x) × (r < 256) ⌝ }
 {
     x as u64
 }
 
 // The little-endian number of the two bytes at place i.
-pub fn half(bytes: &[u8], i: usize) -> u64
+pub(crate) fn half(bytes: &[u8], i: usize) -> u64
     requires { ⌜ i + 2 ≤ length (now bytes) ⌝ }
     ensures { λ r. ⌜ (r ≡ number-at 2 i (now (bytes .entry))) × (r < 65536) ⌝ }
 {
@@ -21,7 +21,7 @@ pub fn half(bytes: &[u8], i: usize) -> u64
 }
 
 // The little-endian number of the four bytes at place i.
-pub fn quad(bytes: &[u8], i: usize) -> u64
+pub(crate) fn quad(bytes: &[u8], i: usize) -> u64
     requires { ⌜ i + 4 ≤ length (now bytes) ⌝ }
     ensures { λ r. ⌜ (r ≡ quad-of (now (bytes .entry)) i) × (r < 4294967296) ⌝ }
 {
@@ -32,7 +32,7 @@ pub fn quad(bytes: &[u8], i: usize) -> u64
 }
 
 // The little-endian number of the eight bytes at place i.
-pub fn word(bytes: &[u8], i: usize) -> u64
+pub(crate) fn word(bytes: &[u8], i: usize) -> u64
     requires { ⌜ i + 8 ≤ length (now bytes) ⌝ }
     ensures { λ r. ⌜ r ≡ number-at 8 i (now (bytes .entry)) ⌝ }
 {

@@ -5,10 +5,10 @@ ghost use Rattle.sets.specs.Sets.{single};
 ghost use Rattle.seats.specs.Images.{distance};
 
 // MinRole and MaxRole, as a set.
-pub const ENDS: u64 = 3;
+pub(crate) const ENDS: u64 = 3;
 
 // The set whose only member is n, by a shift: saving and loading make one for each entry.
-pub fn only(n: usize) -> u64
+pub(crate) fn only(n: usize) -> u64
     requires { ⌜ n < 64 ⌝ }
     ensures { λ r. ⌜ r ≡ single n ⌝ }
 {
@@ -16,7 +16,7 @@ pub fn only(n: usize) -> u64
 }
 
 // The distance from an image's end back to its start.
-pub fn distance(roles: usize, seats: usize, conflicts: usize) -> usize
+pub(crate) fn distance(roles: usize, seats: usize, conflicts: usize) -> usize
     requires { ⌜ (roles < 256) × (seats < 256) × (conflicts < 65536) ⌝ }
     ensures { λ r. ⌜ (r ≡ distance roles seats conflicts) × (r < 140000) ⌝ }
 {

@@ -21,7 +21,7 @@ use graph::refusing::holds_pair;
 use graph::table::entry;
 
 // The union of the sets of these roles.
-pub fn joined(sets: &[u64], roles: u64) -> u64
+pub(crate) fn joined(sets: &[u64], roles: u64) -> u64
     ensures { λ v. ⌜ v ≡ gather role-count (λ r. member r roles) (at (now (sets .entry))) ⌝ }
 {
     let mut found: u64 = 0;
@@ -35,14 +35,14 @@ pub fn joined(sets: &[u64], roles: u64) -> u64
 }
 
 // A refusal as an answer.
-pub fn refusal(number: u8, place: u8) -> Answer
+pub(crate) fn refusal(number: u8, place: u8) -> Answer
     ensures { λ r. ⌜ read-answer r ≡ refused number place ⌝ }
 {
     Answer::Refused(Refusal { number, place })
 }
 
 // The lowest seat that has the role.
-pub fn holder(seats: &[u64], role: Role) -> u8
+pub(crate) fn holder(seats: &[u64], role: Role) -> u8
     ensures { λ v. ⌜ v ≡ lowest seat-count (λ i. member (role .0) (at (now (seats .entry)) i)) ⌝ }
 {
     let r = role.0 as usize;
@@ -75,14 +75,14 @@ fn pair_seat_with<'a>(
 }
 
 // The lowest seat that holds a declared pair.
-pub fn pair_seat<'a>(sets: &'a [u64], conflicts: &'a [u64], seats: &'a [u64]) -> u8
+pub(crate) fn pair_seat<'a>(sets: &'a [u64], conflicts: &'a [u64], seats: &'a [u64]) -> u8
     ensures { λ v. ⌜ v ≡ lowest seat-count (pair-seat (state-of 0 (now (sets .entry)) (now (conflicts .entry)) (now (seats .entry)))) ⌝ }
 {
     pair_seat_with(sets, conflicts, seats, 64, 0)
 }
 
 // The lowest seat that holds a declared pair where seat a has role b too.
-pub fn pair_seat_after<'a>(
+pub(crate) fn pair_seat_after<'a>(
     sets: &'a [u64],
     conflicts: &'a [u64],
     seats: &'a [u64],
@@ -98,7 +98,7 @@ pub fn pair_seat_after<'a>(
 }
 
 // The lowest seat that holds both privileges of the pair offered.
-pub fn offered_seat<'a>(sets: &'a [u64], seats: &'a [u64], a: Privilege, b: Privilege) -> u8
+pub(crate) fn offered_seat<'a>(sets: &'a [u64], seats: &'a [u64], a: Privilege, b: Privilege) -> u8
     ensures { λ v. ⌜ v ≡ lowest seat-count (offered-seat (state-of 0 (now (sets .entry)) [] (now (seats .entry))) (a .0) (b .0)) ⌝ }
 {
     for i in 0..64u8 {
