@@ -3,7 +3,7 @@
 use mathlib.Core.Bool.{Bool, true, false}
 use mathlib.Core.List.{List, [], _++_}
 use mathlib.Core.Path.{_≡_, refl, sym, ap, _∙_, subst}
-use Prim.Native.Nat.{ℕ, _+_, _%_, _≤_}
+use Prim.Native.Nat.{ℕ, _+_, _≤_}
 use native.Mathlib.Omega.{arith}
 use lib.Dec.{eqb}
 use lib.ListN.{length, take, length-append}
@@ -14,7 +14,6 @@ use Rattle.graph.specs.Drawing.{below, edge, edge-count}
 use Rattle.graph.specs.Reading.{drawn-from}
 use Rattle.seats.specs.Bytes.{Filled, fill}
 use Rattle.seats.specs.Seats.{State, fresh}
-use Rattle.seats.specs.Records.{record-length}
 use Rattle.seats.specs.Tape.{records, fed, feed}
 use Rattle.seats.specs.Reading.{read-state, read-filled}
 use Rattle.seats.proofs.TapeRecords.{record-count, fed-none, fed-append}

@@ -27,7 +27,6 @@ written-le s buffer n d e = elim (decide (leb (length (image s)) (length buffer)
       omega arith
 ]
 
--- The code of what was answered, and the buffer, by the state that was read.
-pub saves : (s : State) (buffer : List ℕ) {f : Filled} {X : List ℕ} {h : State} {v : ℕ} → v ≡ save-code f → h ≡ s → (f, X) ≡ save h buffer → _≡_ {A = ℕ × List ℕ} (v, X) (save-code (save s buffer .0), save s buffer .1)
-saves s buffer {X = X} p q e =
-    ap (λ (k : ℕ). (k, X)) p ∙ ap (λ (r : Filled × List ℕ). (save-code (r .0), r .1)) (e ∙ ap (λ (k : State). save k buffer) q)
+-- The code of what was answered, and the buffer.
+pub saves : (s : State) (buffer : List ℕ) {f : Filled} {X : List ℕ} {v : ℕ} → v ≡ save-code f → (f, X) ≡ save s buffer → _≡_ {A = ℕ × List ℕ} (v, X) (save-code (save s buffer .0), save s buffer .1)
+saves s buffer {X = X} p e = ap (λ (k : ℕ). (k, X)) p ∙ ap (λ (r : Filled × List ℕ). (save-code (r .0), r .1)) e

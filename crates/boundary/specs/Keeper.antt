@@ -14,6 +14,7 @@ use Rattle.seats.specs.Records.{step}
 use Rattle.seats.specs.Images.{load-over}
 use Rattle.seats.specs.Saving.{save}
 use Rattle.seats.specs.ListTheorem.{ask-record}
+use Rattle.seats.specs.Asks.{yes-count}
 use Rattle.boundary.specs.Block.{holding, of-state, code-of, no-state, save-code}
 
 -- An answer's code, and the block with the state after it.
@@ -39,6 +40,10 @@ save-block W buffer = of-state W (λ s. let r = save s buffer in (save-code (r .
 -- The answer to a record that asks.
 unfoldable pub ask-block : List ℕ → ℕ → ℕ → ℕ
 ask-block W i p = of-state W (λ s. code-of (step s (ask-record i p) .0)) no-state
+
+-- How many of these asks are answered yes.
+unfoldable pub count-yes-block : List ℕ → List ℕ → ℕ
+count-yes-block W l = of-state W (λ s. yes-count s l) 0
 
 -- How many edges are drawn.
 unfoldable pub edge-count-block : List ℕ → ℕ

@@ -2,21 +2,22 @@
 ghost use mathlib.Core.Path.{_≡_};
 ghost use Prim.Native.Nat.{_≤_};
 ghost use lib.ListN.{length};
-ghost use Rattle.graph.specs.Editing.{Change};
+ghost use Rattle.graph.specs.Reading.{read-change};
 ghost use Rattle.seats.specs.Calls.{change, perform};
-ghost use Rattle.seats.specs.Records.{well-formed, decode, step};
-ghost use Rattle.seats.specs.Reading.{read-request, read-decision};
+ghost use Rattle.seats.specs.Reading.{read-request, read-decision, read-changed};
 ghost use Rattle.boundary.specs.Block.{block-length, state-in};
 ghost use Rattle.boundary.specs.Keeper.{given, fresh-block, call-block};
 use crate::block::WORDS;
 use crate::block::put_state;
 use crate::block::put_table;
 use crate::block::store_at;
-use crate::block::table_at;
 use crate::codes::NO_STATE;
 use crate::codes::code;
 use crate::codes::refusal_code;
+use graph::Change;
+use seats::Answer;
 use seats::Call;
+use seats::Changed;
 use seats::Decision;
 use seats::Decoded;
 use seats::Request;
@@ -73,19 +74,33 @@ fn take_request(block: &mut [u64], request: Request) -> u32
     code(answer)
 }
 
-// Kinds 1 to 7, which change the roles and the sets alone.
-fn take_change(block: &mut [u64], bytes: &[u8]) -> u32
+// What a change comes to, decided on parts of the block.
+fn changed(block: &[u64], edit: Change) -> Changed
     requires { ⌜ block-length ≤ length (now block) ⌝ }
-    ensures { λ r. ⌜ ((c : Change) → decode (now (bytes .entry)) ≡ well-formed (change c) → (r, now (block .exit)) ≡ given (now (block .entry)) (step (state-in (now (block .entry))) (now (bytes .entry)))) ⌝ }
+    ensures { λ r. let s = state-in (now (block .entry)) in ⌜ read-changed s r ≡ perform s (change (read-change edit)) ⌝ }
 {
-    let mut sets = table_at(block, 1);
-    let mut conflicts = table_at(block, 65);
-    let mut seats = table_at(block, 129);
-    let taken = stepping::take(block[0], &mut sets, &mut conflicts, &mut seats, bytes);
-    let answer = taken.answer;
-    block[0] = taken.roles;
-    put_table(block, 1, &sets);
-    code(answer)
+    let sets = &block[1..65];
+    let conflicts = &block[65..129];
+    let seats = &block[129..193];
+    stepping::decide_change(block[0], sets, conflicts, seats, edit)
+}
+
+// Kinds 1 to 7, which change the roles and the sets alone; the block is written where the change is accepted.
+fn take_change(block: &mut [u64], edit: Change) -> u32
+    requires { ⌜ block-length ≤ length (now block) ⌝ }
+    ensures { λ r. ⌜ (r, now (block .exit)) ≡ given (now (block .entry)) (perform (state-in (now (block .entry))) (change (read-change edit))) ⌝ }
+{
+    let next = changed(block, edit);
+    let answer = next.answer;
+    match answer {
+        Answer::Accepted => {
+            let sets = next.sets;
+            block[0] = next.roles;
+            put_table(block, 1, &sets);
+            code(answer)
+        }
+        _ => code(answer),
+    }
 }
 
 // Takes a record of any bytes.
@@ -102,7 +117,7 @@ pub extern "C" fn keeper_call(block: &mut [u64], bytes: &[u8]) -> u32
     };
     let call = step.call;
     match call {
-        Call::Change(_) => take_change(block, bytes),
+        Call::Change(edit) => take_change(block, edit),
         Call::Request(request) => take_request(block, request),
     }
 }

@@ -19,14 +19,10 @@ pub extern "C" fn keeper_save(block: &[u64], buffer: &mut [u8]) -> u32
     if block.len() < WORDS {
         return NO_STATE;
     }
-    let state = state_in(block);
-    let filled = saving::save(
-        state.roles,
-        &state.sets,
-        &state.conflicts,
-        &state.seats,
-        buffer,
-    );
+    let sets = &block[1..65];
+    let conflicts = &block[65..129];
+    let seats = &block[129..193];
+    let filled = saving::save(block[0], sets, conflicts, seats, buffer);
     match filled {
         Filled::Written(n) => n as u32,
         Filled::TooShort(refusal) => 65536 + refusal_code(refusal.number, refusal.place),

@@ -1,8 +1,7 @@
 // What a block's state shows: exported functions that change nothing.
 ghost use mathlib.Core.Path.{_≡_};
-ghost use Rattle.boundary.specs.Keeper.{ask-block, edge-count-block, effective-block, direct-block, juniors-block, seniors-block, below-block, declared-block, seat-roles-block, held-block};
+ghost use Rattle.boundary.specs.Keeper.{ask-block, count-yes-block, edge-count-block, effective-block, direct-block, juniors-block, seniors-block, below-block, declared-block, seat-roles-block, held-block};
 use crate::block::WORDS;
-use crate::block::table_at;
 use crate::codes::NO_STATE;
 use crate::codes::code;
 use graph::Privilege;
@@ -26,6 +25,19 @@ pub extern "C" fn keeper_ask(block: &[u64], seat: u8, privilege: u8) -> u32
     code(seating::ask(sets, seats, Seat(seat), Privilege(privilege)))
 }
 
+// How many of these asks, two bytes each, a seat and a privilege, are answered yes.
+#[no_mangle]
+pub extern "C" fn keeper_count_yes(block: &[u64], asks: &[u8]) -> u64
+    ensures { λ r. ⌜ r ≡ count-yes-block (now (block .entry)) (now (asks .entry)) ⌝ }
+{
+    if block.len() < WORDS {
+        return 0;
+    }
+    let sets = &block[1..65];
+    let seats = &block[129..193];
+    seating::count_yes(sets, seats, asks)
+}
+
 // How many edges are drawn.
 #[no_mangle]
 pub extern "C" fn keeper_edge_count(block: &[u64]) -> u32
@@ -34,8 +46,8 @@ pub extern "C" fn keeper_edge_count(block: &[u64]) -> u32
     if block.len() < WORDS {
         return 0;
     }
-    let sets = table_at(block, 1);
-    drawing::edge_count(block[0], &sets)
+    let sets = &block[1..65];
+    drawing::edge_count(block[0], sets)
 }
 
 // The effective privileges of a role.
@@ -58,8 +70,8 @@ pub extern "C" fn keeper_direct(block: &[u64], role: u8) -> u64
     if block.len() < WORDS {
         return 0;
     }
-    let sets = table_at(block, 1);
-    drawing::direct_of(block[0], &sets, Role(role))
+    let sets = &block[1..65];
+    drawing::direct_of(block[0], sets, Role(role))
 }
 
 // The immediate juniors of a role.
@@ -70,8 +82,8 @@ pub extern "C" fn keeper_juniors(block: &[u64], role: u8) -> u64
     if block.len() < WORDS {
         return 0;
     }
-    let sets = table_at(block, 1);
-    drawing::juniors_of(block[0], &sets, Role(role))
+    let sets = &block[1..65];
+    drawing::juniors_of(block[0], sets, Role(role))
 }
 
 // The immediate seniors of a role.
@@ -82,8 +94,8 @@ pub extern "C" fn keeper_seniors(block: &[u64], role: u8) -> u64
     if block.len() < WORDS {
         return 0;
     }
-    let sets = table_at(block, 1);
-    drawing::seniors_of(block[0], &sets, Role(role))
+    let sets = &block[1..65];
+    drawing::seniors_of(block[0], sets, Role(role))
 }
 
 // Whether the first role lies below the second.
@@ -94,8 +106,8 @@ pub extern "C" fn keeper_is_below(block: &[u64], junior: u8, senior: u8) -> bool
     if block.len() < WORDS {
         return false;
     }
-    let sets = table_at(block, 1);
-    drawing::is_below(block[0], &sets, Role(junior), Role(senior))
+    let sets = &block[1..65];
+    drawing::is_below(block[0], sets, Role(junior), Role(senior))
 }
 
 // Whether the conflict of two privileges is declared.

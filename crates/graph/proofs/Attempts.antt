@@ -29,13 +29,23 @@ keep-passed : (v : Verdict) (g h : Graph) → v ≡ passed → keep v g h .1 ≡
 unfolding keep
 keep-passed v g h e = ap (λ (x : Verdict). keep x g h .1) e
 
-keep-refused : (v : Verdict) (g h : Graph) {n p : ℕ} → v ≡ refused n p → keep v g h .1 ≡ g
+-- What passes becomes the second graph.
+pub keeps-second : (v : Verdict) (g h : Graph) → v ≡ passed → (passed, h) ≡ keep v g h
 unfolding keep
-keep-refused v g h e = ap (λ (x : Verdict). keep x g h .1) e
+keeps-second v g h e = ap (λ (x : Verdict). keep x g h) (sym e)
+
+-- What is refused leaves the first graph, whatever the second.
+pub keeps-first : {v w : Verdict} (g h k : Graph) {n p : ℕ} → v ≡ w → v ≡ refused n p → keep v g h ≡ keep w g k
+unfolding keep
+keeps-first g h k e r = ap (λ (x : Verdict). keep x g h) r ∙ ap (λ (x : Verdict). keep x g k) (sym r ∙ e)
 
 -- ---- the conflicts do not matter before 29
 module _ (roles : ℕ) (sets C : List ℕ) where
-  pub early-any : (c : Change) → early (drawn-from roles sets) c ≡ early (graph-of roles sets C) c
+  -- The graph of these roles and sets.
+  abbrev pub G : Graph
+  G = drawn-from roles sets
+
+  pub early-any : (c : Change) → early G c ≡ early (graph-of roles sets C) c
   unfolding early state-checks present ordinary effective below edge direct at-or-below
   early-any (add-by-place a own juniors seniors) = refl
   early-any (add-by-privileges a own) = refl
@@ -45,29 +55,31 @@ module _ (roles : ℕ) (sets C : List ℕ) where
   early-any (add-edge a b) = refl
   early-any (remove-edge a b) = refl
 
-  changed-any : (c : Change) → graph-of (changed (drawn-from roles sets) c .roles) (changed (drawn-from roles sets) c .sets) C ≡ changed (graph-of roles sets C) c
+  changed-any : (c : Change) → graph-of (changed G c .roles) (changed G c .sets) C ≡ changed (graph-of roles sets C) c
   unfolding changed redraw present ordinary effective below edge direct
   changed-any c = refl
 
-  module _ (c : Change) (a : Attempt) (e : read-attempt a ≡ keep (early (drawn-from roles sets) c) (drawn-from roles sets) (changed (drawn-from roles sets) c)) where
+  module _ (c : Change) (a : Attempt) (e : read-attempt G a ≡ keep (early G c) G (changed G c)) where
+    judged-early : read-verdict (a .verdict) ≡ early G c
+    judged-early =
+        sym (keep-verdict (read-verdict (a .verdict)) G (drawn-from (a .roles) (a .sets)))
+        ∙ ap (λ (z : Verdict × Graph). z .0) e
+        ∙ keep-verdict (early G c) G (changed G c)
+
     -- The attempt's verdict is that of the checks before closing.
     pub first : read-verdict (a .verdict) ≡ verdict (input-checks c ++ state-checks (graph-of roles sets C) c)
     unfolding early
-    first = ap (λ (z : Verdict × Graph). z .0) e ∙ keep-verdict (early (drawn-from roles sets) c) _ _ ∙ early-any c
-
-    -- What the attempt refuses leaves the roles and sets.
-    pub attempt-refused : {r : Refusal} → a .verdict ≡ Refused r → drawn-from (a .roles) (a .sets) ≡ drawn-from roles sets
-    unfolding read-verdict
-    attempt-refused {r} d =
-        ap (λ (z : Verdict × Graph). z .1) e
-        ∙ keep-refused (early (drawn-from roles sets) c) _ _ (sym (keep-verdict (early (drawn-from roles sets) c) _ _) ∙ sym (ap (λ (z : Verdict × Graph). z .0) e) ∙ ap read-verdict d)
+    first = judged-early ∙ early-any c
 
     -- Where nothing refused, the roles and sets are those after the change.
     pub after-passed : a .verdict ≡ Passed → graph-of (a .roles) (a .sets) C ≡ changed (graph-of roles sets C) c
     unfolding read-verdict
     after-passed d =
-        let v : early (drawn-from roles sets) c ≡ passed = sym (keep-verdict (early (drawn-from roles sets) c) _ _) ∙ sym (ap (λ (z : Verdict × Graph). z .0) e) ∙ ap read-verdict d in
-        let q : drawn-from (a .roles) (a .sets) ≡ changed (drawn-from roles sets) c = ap (λ (z : Verdict × Graph). z .1) e ∙ keep-passed (early (drawn-from roles sets) c) _ _ v in
+        let v : read-verdict (a .verdict) ≡ passed = ap read-verdict d in
+        let q : drawn-from (a .roles) (a .sets) ≡ changed G c =
+        sym (keep-passed (read-verdict (a .verdict)) G (drawn-from (a .roles) (a .sets)) v)
+        ∙ ap (λ (z : Verdict × Graph). z .1) e
+        ∙ keep-passed (early G c) G (changed G c) (sym judged-early ∙ v) in
         ap (λ (k : Graph). graph-of (k .roles) (k .sets) C) q ∙ changed-any c
 
     -- All checks of the change, in one list.

@@ -6,23 +6,23 @@ use mathlib.Core.Logic.{_≢_, _⊎_, inl, inr}
 use mathlib.Core.List.{List}
 use Prim.Native.Nat.{ℕ, _<_, _^_}
 use native.Mathlib.Omega.{arith}
-use lib.Dec.{T, T-not, not-T, eqb, ltb, lt→ltb}
+use lib.Dec.{T, T-not, eqb, ltb, lt→ltb}
 use Rattle.sets.specs.Counting.{any, count, sum}
-use Rattle.sets.specs.Sets.{digit, member, single, union, difference, strictly-included, size, when, collect, gather}
+use Rattle.sets.specs.Sets.{digit, member, single, union, difference, included, strictly-included, size, when, collect, gather}
 use Rattle.sets.proofs.Tests.{both, join, either, or-left, or-right, same-test, passes, fails, equal-test, test-equal, so}
-use Rattle.sets.proofs.Counting.{any-some, some-any, any-cong, count-cong, sum-cong}
-use Rattle.sets.proofs.Laws.{binary, member-lt, member-single, member-union, member-difference, member-collect, member-gather, member-empty, equal-members, extensional, difference-empty, difference-lt, collect-lt, gather-cong}
-use Rattle.sets.proofs.Members.{in-empty, in-collect, collect-in, no-members}
+use Rattle.sets.proofs.Counting.{any-cong, count-cong, sum-cong}
+use Rattle.sets.proofs.Laws.{binary, member-lt, member-single, member-union, member-difference, member-collect, member-gather, member-empty, equal-members, extensional, difference-empty, difference-lt, collect-lt, included-member, gather-cong}
+use Rattle.sets.proofs.Members.{in-empty, in-difference, difference-in, in-gather, gather-in, no-members}
 use Rattle.order.specs.Paths.{drawn}
 use Rattle.graph.specs.Tables.{at, table}
 use Rattle.graph.specs.Graph.{Graph, role-count, min-role, max-role, is-end, ordinary, present, effective}
 use Rattle.graph.specs.Drawing.{below, edge, juniors, seniors, edge-count, direct, roles-below, direct-table}
 use Rattle.graph.proofs.Tables.{length-table, at-table, table-ext}
-use Rattle.graph.proofs.Order.{Under, from-min, to-max, inside, is-end-lt, lt-is-end, ordinary-parts, present-cases, ordinary-present, end-present, ordinary-lt, present-lt, below-cases, below-join, edge-below}
+use Rattle.graph.proofs.Order.{Under, from-min, to-max, inside, is-end-lt, lt-is-end, ordinary-parts, present-cases, ordinary-present, end-present, ordinary-lt, present-lt, below-cases, below-join, min-below, above-min, not-above-max, edge-below, path-iff-below, none-between, below-junior, path-iff-included}
 
 -- ---- the order by a few tests
 -- The set 3 has the numbers of the end roles.
-member-ends : (n : ℕ) → member n 3 ≡ is-end n
+pub member-ends : (n : ℕ) → member n 3 ≡ is-end n
 unfolding member digit
 member-ends n =
     same-test (member n 3) (is-end n) (λ m. lt-is-end n (member-lt 2 n 3 (omega arith) m))
@@ -199,28 +199,95 @@ direct-picked g s =
     ap (difference (at (g .sets) s))
     (gather-cong role-count (λ r. member r (juniors g s)) (λ r. edge g r s) (at (g .sets)) (effective g) (λ r l. collected r role-count (λ r. edge g r s) l) (λ r _ _. refl))
 
+-- A privilege is direct in s where s has it and no immediate junior does.
+pub direct-member : (g : Graph) (p s : ℕ) → member p (direct g s) ≡ member p (at (g .sets) s) && not (member p (gather role-count (λ r. edge g r s) (at (g .sets))))
+unfolding direct effective
+direct-member g p s = member-difference p (at (g .sets) s) (gather role-count (λ r. edge g r s) (at (g .sets)))
+
 gather-empty : (f : ℕ → ℕ) → gather role-count (λ r. member r 0) f ≡ 0
 unfolding gather when union member digit
 gather-empty f = refl
 
-none-collected : (n : ℕ) (f : ℕ → Bool) → eqb (collect n f) 0 ≡ not (any n f)
-none-collected n f =
-    same-test (eqb (collect n f) 0) (not (any n f))
-    (λ t.
-    not-T (any n f)
-    (λ some.
-    let (i, l, x) = any-some n f some in
-    in-empty i (subst (λ (s : ℕ). T (member i s)) (test-equal t) (collect-in i n f l x))))
-    (λ t. equal-test (no-members n (collect n f) (collect-lt n f) (λ i m. let (l, x) = in-collect i n f m in T-not (any n f) t (some-any n f i l x))))
+-- A role other than MinRole that lies below some role is ordinary.
+low-ordinary : (g : Graph) (t s : ℕ) → t ≢ min-role → T (below g t s) → T (ordinary g t)
+low-ordinary g t s d b =
+    elim (present-cases g t (below-cases g t s b .0)) [
+      | inl l ↦ (let e : t ≡ max-role = omega (arith, d) in absurd (not-above-max g s (subst (λ (i : ℕ). T (below g i s)) e b)))
+      | inr o ↦ o
+    ]
 
--- An edge is drawn from a role below s where none of the roles below s lies above it.
-pub edge-tests : (g : Graph) → g .roles < 2 ^ role-count → (r s : ℕ)
-    → member r (roles-below g s) && eqb (collect role-count (λ t. member t (roles-below g s) && below g r t)) 0 ≡ edge g r s
-unfolding edge drawn
-edge-tests g h r s =
-    ap₂ _&&_ (below-member g h r s)
-    (none-collected role-count (λ t. member t (roles-below g s) && below g r t)
-    ∙ ap not (any-cong role-count _ (λ t. below g r t && below g t s) (λ t _. ap (λ (b : Bool). b && below g r t) (below-member g h t s) ∙ and-comm (below g t s) (below g r t))))
+-- A role that lies between two others is ordinary.
+between-ordinary : (g : Graph) (r t s : ℕ) → T (below g r t) → T (below g t s) → T (ordinary g t)
+between-ordinary g r t s x y = low-ordinary g t s (λ e. omega (arith, above-min g r t x)) y
+
+-- A search for a role between two others may look among the ordinary roles only.
+pub between-tests : (g : Graph) (r s : ℕ)
+    → any role-count (λ t. member t (difference (g .roles) 3) && (below g r t && below g t s)) ≡ any role-count (λ t. below g r t && below g t s)
+between-tests g r s =
+    any-cong role-count _ _
+    (λ t _.
+    ap (λ (b : Bool). b && (below g r t && below g t s)) (ordinary-member g t)
+    ∙ needless (ordinary g t) (below g r t && below g t s) (λ u. let (x, y) = both (below g r t) (below g t s) u in between-ordinary g r t s x y))
+
+-- ---- what immediate juniors have
+module _ (g : Graph) (h : g .roles < 2 ^ role-count) (s : ℕ) where
+  -- The roles below s without MinRole.
+  abbrev lowers : ℕ
+  lowers = difference (roles-below g s) 1
+
+  in-lowers : (t : ℕ) → T (below g t s) → t ≢ min-role → T (member t lowers)
+  unfolding single
+  in-lowers t b d = difference-in t (roles-below g s) (single min-role) (subst T (sym (below-member g h t s)) b) (λ m. d (test-equal (subst T (member-single t min-role) m)))
+
+  lowers-in : (t : ℕ) → T (member t lowers) → T (below g t s) × (t ≢ min-role)
+  unfolding single
+  lowers-in t m =
+      let (b, d) = in-difference t (roles-below g s) (single min-role) m in
+      (subst T (below-member g h t s) b, λ e. d (subst T (sym (member-single t min-role)) (equal-test e)))
+
+  -- Where no ordinary role lies below s, the immediate juniors of s are the roles below it.
+  pub inherited-least : lowers ≡ 0 → gather role-count (λ r. member r (roles-below g s)) (at (g .sets)) ≡ gather role-count (λ r. edge g r s) (at (g .sets))
+  inherited-least z =
+      gather-cong role-count _ _ (at (g .sets)) (at (g .sets))
+      (λ r _. below-member g h r s ∙ same-test (below g r s) (edge g r s) (λ b. drawn-here r (below-junior g h r s b)) (edge-below g r s)) (λ r _ _. refl)
+    where
+      drawn-here : (r : ℕ) → T (edge g r s) ⊎ ((t : ℕ) × T (below g r t) × T (edge g t s)) → T (edge g r s)
+      drawn-here r (inl d) = d
+      drawn-here r (inr (t, b, d)) = absurd (in-empty t (subst (λ (i : ℕ). T (member t i)) z (in-lowers t (edge-below g t s d) (λ e. omega (arith, above-min g r t b)))))
+
+  -- Where some does, what the immediate juniors of s have is what the ordinary roles below it have.
+  pub inherited-ordinary : lowers ≢ 0 → gather role-count (λ r. member r lowers) (at (g .sets)) ≡ gather role-count (λ r. edge g r s) (at (g .sets))
+  unfolding effective strictly-included
+  inherited-ordinary some = equal-members _ _ (λ p. same-test _ _ (there p) (back p))
+    where
+      sets : ℕ → ℕ
+      sets = at (g .sets)
+
+      there : (p : ℕ) → T (member p (gather role-count (λ r. member r lowers) sets)) → T (member p (gather role-count (λ r. edge g r s) sets))
+      there p u =
+          let (r, l, m, x) = in-gather p role-count (λ r. member r lowers) sets u in
+          let (b, d) = lowers-in r m in
+          elim (below-junior g h r s b) [
+            | inl e ↦ gather-in p role-count (λ r. edge g r s) sets r l e x
+            | inr (t, c, e) ↦ (
+                let o = between-ordinary g r t s c (edge-below g t s e) in
+                let i = path-iff-included g h r t (low-ordinary g r s d b) o .0 (path-iff-below g h r t .1 c) in
+                gather-in p role-count (λ r. edge g r s) sets t (ordinary-lt g t h o) e
+                (included-member _ _ (both (included (sets r) (sets t)) (not (eqb (sets r) (sets t))) i .0) p x))
+          ]
+
+      -- An immediate junior of s is not MinRole.
+      not-least : (r : ℕ) → T (edge g r s) → r ≢ min-role
+      not-least r e z =
+          some (no-members role-count lowers (difference-lt role-count _ _ (collect-lt role-count _))
+          (λ t m.
+          let (b, d) = lowers-in t m in
+          none-between g h r s e t (subst (λ (i : ℕ). T (below g i t)) (sym z) (min-below g t (below-cases g t s b .0) d)) b))
+
+      back : (p : ℕ) → T (member p (gather role-count (λ r. edge g r s) sets)) → T (member p (gather role-count (λ r. member r lowers) sets))
+      back p u =
+          let (r, l, e, x) = in-gather p role-count (λ r. edge g r s) sets u in
+          gather-in p role-count (λ r. member r lowers) sets r l (in-lowers r (edge-below g r s e) (not-least r e)) x
 
 -- ---- the tables
 pub table-cong : (n : ℕ) (f h : ℕ → ℕ) → ((i : ℕ) → i < n → f i ≡ h i) → table n f ≡ table n h

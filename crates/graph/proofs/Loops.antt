@@ -164,6 +164,33 @@ filling-done {f} {old} {all} {rest} {l} c z =
     table-ext role-count l (table role-count (λ i. cond (member i all) (f i) (old i))) (c .whole) (length-table role-count _)
     (λ i h. c .got i ∙ ap (λ (b : Bool). cond b (f i) (old i)) (left-over all z i) ∙ sym (at-table role-count i _ h))
 
+-- ---- filling a table from its start
+-- A table whose first n entries are f's.
+pub record Filled (f : ℕ → ℕ) (n : ℕ) (l : List ℕ) : Type 0 where
+  pub within : n ≤ role-count
+  pub whole : length l ≡ role-count
+  pub got : (i : ℕ) → i < n → at l i ≡ f i
+
+pub filled-none : (f : ℕ → ℕ) (l : List ℕ) → length l ≡ role-count → Filled f 0 l
+filled-none f l w = record { within = omega arith; whole = w; got = λ i h. absurd (not-suc-le-zero h) }
+
+-- One turn stores the next entry.
+pub filled-next : {f : ℕ → ℕ} {n : ℕ} {l : List ℕ} → Filled f n l → n < role-count → {s : ℕ} → s ≡ f n → Filled f (n + 1) (set l n s)
+unfolding at
+filled-next {f} {n} {l} c k {s} e = record {
+  within = omega arith;
+  whole = length-set l n s ∙ c .whole;
+  got = λ i h.
+      elim (ℕ-discrete i n) [
+        | yes d ↦ rw d (getD-set-same l n s 0 (omega (arith, c .whole)) ∙ e)
+        | no d ↦ getD-set-other l n i s 0 d ∙ c .got i (omega (arith, d))
+      ];
+}
+
+pub filled-done : {f : ℕ → ℕ} {n : ℕ} {l : List ℕ} → Filled f n l → n ≡ role-count → l ≡ table role-count f
+filled-done {f} {n} {l} c e =
+    table-ext role-count l (table role-count f) (c .whole) (length-table role-count f) (λ i h. c .got i (omega arith) ∙ sym (at-table role-count i f h))
+
 -- ---- adding up over the members
 -- One number more that counts adds its value to a sum.
 sum-more : (n : ℕ) (f h : ℕ → ℕ) (m : ℕ) → m < n → f m ≡ 0 → ((i : ℕ) → i ≢ m → h i ≡ f i) → sum n h ≡ sum n f + h m

@@ -12,7 +12,7 @@ use lib.Seq.{getD-set-same, getD-set-other}
 use lib.Dec.{T, not-T, lit<, eqb}
 use Rattle.sets.specs.Sets.{empty, member, single, union, difference, when, collect, gather, lowest-member, without-lowest}
 use Rattle.sets.proofs.Tests.{join, test-equal}
-use Rattle.sets.proofs.Laws.{member-lt, gather-lt}
+use Rattle.sets.proofs.Laws.{member-lt, gather-lt, union-empty}
 use Rattle.sets.proofs.Members.{in-union, union-left, union-right, in-difference, difference-in, in-single, single-in, in-empty, in-gather, collect-in, no-members}
 use Rattle.sets.proofs.Walks.{member-next}
 use Rattle.graph.specs.Tables.{at, table}
@@ -22,7 +22,6 @@ use Rattle.graph.proofs.Tables.{length-table, at-table, table-ext}
 use Rattle.graph.proofs.Gathering.{equation}
 use Rattle.graph.proofs.Acyclic.{height, height-falls}
 use Rattle.graph.proofs.Loops.{Left, left-all, left-next, Gathering, gathering-none, gathering-next}
-use Rattle.graph.proofs.Stores.{union-empty}
 
 -- What is gathered where no number passes.
 gather-empty : (n : ℕ) (c : ℕ → Bool) (f : ℕ → ℕ) → ((i : ℕ) → T (c i) → ⊥) → gather n c f ≡ 0

@@ -9,7 +9,7 @@ use lib.Dec.{T, T-not, not-T, eqb, ltb, ltb→lt, lt→ltb, nltb→le}
 use Rattle.sets.specs.Sets.{member, strictly-included}
 use Rattle.sets.proofs.Tests.{both, join, either, or-left, or-right, decide, equal-test, test-equal}
 use Rattle.sets.proofs.Laws.{member-lt, strictly-irreflexive, strictly-transitive}
-use Rattle.order.specs.Paths.{Path, StrictOrder, Between, SamePaths}
+use Rattle.order.specs.Paths.{Path, last, then, StrictOrder, Between, SamePaths}
 use Rattle.order.proofs.Drawing as Drawing
 use Rattle.graph.specs.Graph.{Graph, role-count, min-role, max-role, is-end, ordinary, present, effective}
 use Rattle.graph.specs.Drawing.{below, edge}
@@ -188,6 +188,23 @@ module _ (g : Graph) (h : g .roles < 2 ^ role-count) where
   pub path-iff-below : (r s : ℕ) → Path (Edge g) r s ↔ T (below g r s)
   unfolding edge
   path-iff-below r s = Drawing.path-iff-below role-count (present g) (below g) (below-order g h) r s
+
+  -- No role lies between the two of a drawn edge.
+  pub none-between : (r s : ℕ) → Edge g r s → (t : ℕ) → T (below g r t) → T (below g t s) → ⊥
+  unfolding edge
+  none-between r s d = Drawing.drawn-none-between role-count (present g) (below g) (below-order g h) r s d
+
+  -- A role below s is an immediate junior of s or lies below one.
+  pub below-junior : (r s : ℕ) → T (below g r s) → Edge g r s ⊎ ((t : ℕ) × T (below g r t) × Edge g t s)
+  below-junior r s b = ends (path-iff-below r s .1 b)
+    where
+      ends : {r s : ℕ} → Path (Edge g) r s → Edge g r s ⊎ ((t : ℕ) × T (below g r t) × Edge g t s)
+      ends (last d) = inl d
+      ends (then {r = r} {t = t} d p) =
+          elim (ends p) [
+            | inl e ↦ inr (t, edge-below g r t d, e)
+            | inr (u, b, e) ↦ inr (u, below-order g h .transitive r t u (edge-below g r t d) b, e)
+          ]
 
   -- No path returns to where it starts.
   pub no-circle : (r : ℕ) → Path (Edge g) r r → ⊥

@@ -1,30 +1,28 @@
 -- What the loops of `refusing` keep while they visit the members of a set, lowest first, and what they find.
 -- Assumes nothing.
-use mathlib.Core.Path.{_≡_, sym, ap, ap₂, _∙_, subst}
-use mathlib.Core.Bool.{Bool, true, false, not, _&&_, _||_, and-comm, or-comm}
+use mathlib.Core.Path.{_≡_, refl, sym, ap, ap₂, _∙_, subst}
+use mathlib.Core.Bool.{Bool, true, false, not, _&&_, _||_, or-true}
 use mathlib.Core.Logic.{_≢_, inl, inr}
 use mathlib.Core.List.{List}
 use Prim.Native.Nat.{ℕ, _<_, _≤_, _^_}
 use native.Mathlib.Decide.{decLt}
 use native.Mathlib.Omega.{arith}
-use borrow.Author.Tests.{lt-ltb, le-ltb, eq-eqb, ne-eqb}
-use lib.Dec.{T, T-not, not-T, eqb, ltb, ltb→lt, lt→ltb, lit<}
-use lib.Pow.{pow-pos}
+use borrow.Author.Tests.{eq-eqb, ne-eqb}
+use lib.Dec.{T, T-not, not-T, eqb, ltb, ltb→lt, lt→ltb}
 use Rattle.sets.specs.Counting.{any, lowest}
-use Rattle.sets.specs.Sets.{digit, member, single, union, intersection, difference, when, collect, lowest-member, without-lowest}
-use Rattle.sets.proofs.Tests.{both, join, either, same-test, passes, fails, decide, so, equal-test, test-equal, and-regroup}
+use Rattle.sets.specs.Sets.{member, single, union, intersection, difference, strictly-included, lowest-member, without-lowest}
+use Rattle.sets.proofs.Tests.{both, join, either, or-left, or-right, same-test, passes, fails, decide, so, equal-test, test-equal, and-regroup}
 use Rattle.sets.proofs.Counting.{any-some, some-any, any-cong, lowest-lt, lowest-none, lowest-cong}
-use Rattle.sets.proofs.Laws.{binary, member-lt, union-lt, when-lt, single-lt, collect-lt, member-union, member-collect, member-when, member-single, intersection-lt}
+use Rattle.sets.proofs.Laws.{member-lt, member-intersection, intersection-lt}
 use Rattle.sets.proofs.Members.{in-intersection, intersection-in, in-empty, no-members}
 use Rattle.sets.proofs.Walks.{Searched, search-none, search-next, search-found, search-done, visited, visited-none, visited-next, member-next, lowest-in, lowest-of}
 use Rattle.sets.proofs.Walks as Walks
 use Rattle.graph.specs.Tables.{at}
-use Rattle.graph.specs.Graph.{Graph, role-count, is-end, ordinary, effective}
+use Rattle.graph.specs.Graph.{Graph, role-count, min-role, max-role, ordinary, effective}
 use Rattle.graph.specs.Conflicts.{conflict}
 use Rattle.graph.specs.Drawing.{below}
 use Rattle.graph.specs.Refusing.{at-or-below}
-use Rattle.graph.proofs.Order.{is-end-lt, lt-is-end}
-use Rattle.graph.proofs.Drawings.{ordinary-member}
+use Rattle.graph.proofs.Drawings.{ordinary-member, member-with, below-tests}
 use Rattle.graph.proofs.Loops.{Left, left-all, left-lowest, left-falls}
 
 -- The lowest number that passes is below k where some number below k passes.
@@ -176,11 +174,6 @@ module _ {f : ℕ → Bool} {all rest : ℕ} (s : Search f all rest) (z : rest �
       (λ t. let l = lowest-lt role-count (λ n. member n all && f n) t in let e = miss in omega arith))
 
 -- ---- ordinary roles
--- The end roles are the members of 3.
-pub member-ends : (n : ℕ) → member n 3 ≡ is-end n
-unfolding member digit
-member-ends n = same-test (member n 3) (is-end n) (λ m. lt-is-end n (member-lt 2 n 3 (lit< tt) m)) (λ e. binary (λ n. T (member n 3)) tt tt n (is-end-lt n e))
-
 -- A search among the ordinary roles.
 pub among-ordinary : (g : Graph) (f : ℕ → Bool) → lowest role-count (λ n. member n (difference (g .roles) 3) && f n) ≡ lowest role-count (λ n. ordinary g n && f n)
 among-ordinary g f =
@@ -255,36 +248,79 @@ module _ (C : List ℕ) {all rest : ℕ} (s : Search (has-partner C all) all res
   partner-none z = partner-test ∙ ap not (eq-eqb (intersection next (at C p)) 0 z)
 
 -- ---- circles
--- The roles below j, and j where it is a role.
-abbrev under : Graph → ℕ → ℕ
-under g j = union (collect role-count (λ r. below g r j)) (when (ltb j role-count) (single j))
+-- Whether some role of `all` lies below j.
+abbrev pub some-below : Graph → ℕ → ℕ → Bool
+some-below g all j = any role-count (λ s. member s all && below g s j)
 
-module _ (g : Graph) (j : ℕ) where
-  under-test : (n : ℕ) → n < role-count → member n (under g j) ≡ at-or-below g n j
-  unfolding at-or-below
-  under-test n k =
-      member-union n (collect role-count (λ r. below g r j)) (when (ltb j role-count) (single j))
-      ∙ ap₂ _||_ (member-collect n role-count (λ r. below g r j) ∙ ap (λ (b : Bool). b && below g n j) (lt-ltb n role-count k))
-      (member-when n (ltb j role-count) (single j) ∙ ap (λ (b : Bool). ltb j role-count && b) (member-single n j) ∙ same)
-      ∙ or-comm (below g n j) (eqb n j)
-    where
-      same : ltb j role-count && eqb n j ≡ eqb n j
-      same =
-          same-test (ltb j role-count && eqb n j) (eqb n j) (λ t. both (ltb j role-count) (eqb n j) t .1)
-          (λ t. let q : n ≡ j = test-equal t in join (ltb j role-count) (eqb n j) (lt→ltb j role-count (omega arith)) t)
+module _ (g : Graph) (all j : ℕ) where
+  -- What is tested of each role of `all` that can lie below others, where j can lie above others.
+  abbrev pub ways-below : ℕ → Bool
+  ways-below s = eqb j max-role || (eqb s min-role || strictly-included (effective g s) (effective g j))
 
-  under-lt : under g j < 2 ^ role-count
-  unfolding when
-  under-lt =
-      union-lt role-count _ _ (collect-lt role-count (λ r. below g r j))
-      (elim (decLt j role-count) [
-        | yes l ↦ when-lt role-count (ltb j role-count) (single j) (single-lt role-count j l)
-        | no d ↦ rw (le-ltb j role-count (omega arith)) (pow-pos role-count)
-      ])
+  pub way-to-max : (s : ℕ) → j ≡ max-role → ways-below s ≡ true
+  way-to-max s e = rw (eq-eqb j max-role e)
 
-  -- Some senior is j or lies below it.
-  pub circle-test : (seniors : ℕ) → any role-count (λ s. member s seniors && at-or-below g s j) ≡ not (eqb (intersection (under g j) seniors) 0)
-  circle-test seniors =
-      any-cong role-count (λ s. member s seniors && at-or-below g s j) (λ s. member s (under g j) && member s seniors)
-      (λ s k. and-comm (member s seniors) (at-or-below g s j) ∙ ap (λ (b : Bool). b && member s seniors) (sym (under-test s k)))
-      ∙ common-test (under g j) seniors under-lt
+  pub way-from-min : (s : ℕ) → eqb s min-role ≡ true → ways-below s ≡ true
+  way-from-min s e = rw (e, or-true)
+
+  pub way-inside : (s : ℕ) → strictly-included (effective g s) (effective g j) ≡ true → ways-below s ≡ true
+  way-inside s e = rw (e, or-true, or-true)
+
+  pub no-way : (s : ℕ) → j ≢ max-role → eqb s min-role ≡ false → strictly-included (effective g s) (effective g j) ≡ false → ways-below s ≡ false
+  no-way s d u e = rw (ne-eqb j max-role d, u, e)
+
+  -- j can lie above others.
+  abbrev pub high : Bool
+  high = member j (union (difference (g .roles) 3) 2)
+
+  abbrev low : ℕ → Bool
+  low s = member s (union (difference (g .roles) 3) 1)
+
+  tested : (s : ℕ) → below g s j ≡ high && (low s && ways-below s)
+  unfolding single
+  tested s = below-tests g s j ∙ ap₂ (λ (a b : Bool). a && (b && ways-below s)) (sym (member-with g max-role j)) (sym (member-with g min-role s))
+
+  pub none-below : high ≡ false → false ≡ some-below g all j
+  none-below e =
+      sym
+      (fails (some-below g all j)
+      (λ t.
+      let (s, l, x) = any-some role-count (λ s. member s all && below g s j) t in
+      let (m, b) = both (member s all) (below g s j) x in
+      subst T (tested s ∙ ap (λ (a : Bool). a && (low s && ways-below s)) e) b))
+
+  pub found-below : high ≡ true → any role-count (λ s. member s (intersection all (union (difference (g .roles) 3) 1)) && ways-below s) ≡ some-below g all j
+  found-below e =
+      any-cong role-count _ _
+      (λ s _.
+      ap (λ (a : Bool). a && ways-below s) (member-intersection s all (union (difference (g .roles) 3) 1))
+      ∙ sym (and-regroup (member s all) (low s) (ways-below s))
+      ∙ ap (λ (b : Bool). member s all && b) (sym (tested s ∙ ap (λ (a : Bool). a && (low s && ways-below s)) e)))
+
+-- A senior is j, or some senior lies below it.
+pub circle-tests : (g : Graph) (seniors j : ℕ) → seniors < 2 ^ role-count
+    → member j seniors || some-below g seniors j ≡ any role-count (λ s. member s seniors && at-or-below g s j)
+unfolding at-or-below
+circle-tests g seniors j h = same-test (member j seniors || some-below g seniors j) (any role-count (λ s. member s seniors && (eqb s j || below g s j))) there back
+  where
+    some : (s : ℕ) → s < role-count → T (member s seniors) → T (eqb s j || below g s j) → T (any role-count (λ s. member s seniors && (eqb s j || below g s j)))
+    some s l m x = some-any role-count (λ s. member s seniors && (eqb s j || below g s j)) s l (join (member s seniors) (eqb s j || below g s j) m x)
+
+    there : T (member j seniors || some-below g seniors j) → T (any role-count (λ s. member s seniors && (eqb s j || below g s j)))
+    there t =
+        elim (either (member j seniors) (some-below g seniors j) t) [
+          | inl m ↦ some j (member-lt role-count j seniors h m) m (or-left (eqb j j) (below g j j) (equal-test {a = j} refl))
+          | inr u ↦ (
+              let (s, l, x) = any-some role-count (λ s. member s seniors && below g s j) u in
+              let (m, b) = both (member s seniors) (below g s j) x in
+              some s l m (or-right (eqb s j) (below g s j) b))
+        ]
+
+    back : T (any role-count (λ s. member s seniors && (eqb s j || below g s j))) → T (member j seniors || some-below g seniors j)
+    back t =
+        let (s, l, x) = any-some role-count (λ s. member s seniors && (eqb s j || below g s j)) t in
+        let (m, y) = both (member s seniors) (eqb s j || below g s j) x in
+        elim (either (eqb s j) (below g s j) y) [
+          | inl e ↦ or-left (member j seniors) (some-below g seniors j) (subst (λ (i : ℕ). T (member i seniors)) (test-equal e) m)
+          | inr b ↦ or-right (member j seniors) (some-below g seniors j) (some-any role-count (λ s. member s seniors && below g s j) s l (join (member s seniors) (below g s j) m b))
+        ]

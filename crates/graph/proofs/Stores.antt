@@ -5,20 +5,15 @@ use mathlib.Core.Bool.{Bool, true, false, cond, not}
 use mathlib.Core.Logic.{_≢_}
 use mathlib.Core.List.{List}
 use Prim.Native.Nat.{ℕ}
-use lib.Bits.{or-zero-r}
 use lib.Dec.{T, T-not}
 use Rattle.sets.specs.Sets.{member, union, difference, when, lowest-member}
 use Rattle.sets.proofs.Tests.{both, fails}
-use Rattle.sets.proofs.Laws.{difference-empty}
+use Rattle.sets.proofs.Laws.{union-empty, difference-empty}
 use Rattle.sets.proofs.Walks.{lowest-in, visited}
 use Rattle.graph.specs.Tables.{at, table}
 use Rattle.graph.specs.Graph.{role-count}
 use Rattle.graph.proofs.Loops.{Left, Filling, filling-done}
 use Rattle.graph.proofs.Drawings.{table-cong}
-
-pub union-empty : (s : ℕ) → union s 0 ≡ s
-unfolding union
-union-empty s = or-zero-r s
 
 -- The role that a turn takes is one of those left.
 pub left-in : {all rest n : ℕ} → Left all rest → rest ≢ 0 → n ≡ lowest-member role-count rest → T (member n rest)

@@ -3,7 +3,7 @@ use mathlib.Core.List.{List, []}
 use Prim.Native.Nat.{ℕ}
 use Rattle.graph.specs.Graph.{Graph}
 use Rattle.graph.specs.Editing.{Change, add-by-place, add-by-privileges, remove-role, grant, withdraw, add-edge, remove-edge}
-use Rattle.graph.specs.Refusing.{Verdict, passed, refused}
+use Rattle.graph.specs.Refusing.{Verdict, passed, refused, keep}
 use Rattle.graph.specs.declared.Graph as graph-struct
 use Rattle.graph.specs.declared.Verdict as verdict-enum
 use Rattle.graph.specs.declared.Verdict.the-variants as verdicts
@@ -43,6 +43,6 @@ read-change (changes.RemoveEdge a b) = remove-edge (a .0) (b .0)
 abbrev pub read-outcome : outcome-struct.Outcome → Verdict × Graph
 read-outcome o = (read-verdict (o .verdict), read-graph (o .graph))
 
--- What a change comes to before 26 to 30 are judged: its verdict, and the roles and sets after it.
-abbrev pub read-attempt : attempt-struct.Attempt → Verdict × Graph
-read-attempt a = (read-verdict (a .verdict), drawn-from (a .roles) (a .sets))
+-- What a change of g comes to before 26 to 30 are judged: its verdict, and the graph after it; a refused one leaves g.
+abbrev pub read-attempt : Graph → attempt-struct.Attempt → Verdict × Graph
+read-attempt g a = keep (read-verdict (a .verdict)) g (drawn-from (a .roles) (a .sets))

@@ -32,7 +32,7 @@ fn closed(roles: u64, directs: &[u64; 64], juniors: [u64; 64]) -> [u64; 64]
 // Kind 1: edges from the juniors to a and from a to the seniors.
 pub(crate) fn placed(
     roles: u64,
-    sets: &[u64; 64],
+    sets: &[u64],
     a: Role,
     own: u64,
     juniors: u64,
@@ -51,7 +51,7 @@ pub(crate) fn placed(
 }
 
 // Kind 2: no edge is given.
-pub(crate) fn added(roles: u64, sets: &[u64; 64], a: Role, own: u64) -> [u64; 64]
+pub(crate) fn added(roles: u64, sets: &[u64], a: Role, own: u64) -> [u64; 64]
     requires { ⌜ early (drawn-from roles (now sets)) (add-by-privileges (a .0) own) ≡ passed ⌝ }
     ensures { λ s. ⌜ s ≡ close (edit (add-by-privileges (a .0) own) (redraw (drawn-from roles (now (sets .entry))))) ⌝ }
 {
@@ -63,7 +63,7 @@ pub(crate) fn added(roles: u64, sets: &[u64; 64], a: Role, own: u64) -> [u64; 64
 }
 
 // Kind 3: every immediate junior joined to every immediate senior; with b 1 the direct privileges go to the seniors.
-pub(crate) fn removed(roles: u64, sets: &[u64; 64], a: Role, b: u8) -> [u64; 64]
+pub(crate) fn removed(roles: u64, sets: &[u64], a: Role, b: u8) -> [u64; 64]
     requires { ⌜ early (drawn-from roles (now sets)) (remove-role (a .0) b) ≡ passed ⌝ }
     ensures { λ s. ⌜ s ≡ close (edit (remove-role (a .0) b) (redraw (drawn-from roles (now (sets .entry))))) ⌝ }
 {
@@ -83,7 +83,7 @@ pub(crate) fn removed(roles: u64, sets: &[u64; 64], a: Role, b: u8) -> [u64; 64]
 }
 
 // Kind 4.
-pub(crate) fn granted(roles: u64, sets: &[u64; 64], a: Role, b: Privilege) -> [u64; 64]
+pub(crate) fn granted(roles: u64, sets: &[u64], a: Role, b: Privilege) -> [u64; 64]
     requires { ⌜ early (drawn-from roles (now sets)) (grant (a .0) (b .0)) ≡ passed ⌝ }
     ensures { λ s. ⌜ s ≡ close (edit (grant (a .0) (b .0)) (redraw (drawn-from roles (now (sets .entry))))) ⌝ }
 {
@@ -91,12 +91,12 @@ pub(crate) fn granted(roles: u64, sets: &[u64; 64], a: Role, b: Privilege) -> [u
     let p = b.0 as usize;
     let joins = drawing::draw(roles, sets);
     let mut directs = drawing::direct_sets(drawing::senior_roles(roles), sets, &joins);
-    directs[i] = sets::union(directs[i], sets::single(p));
+    directs[i] = sets::insert(directs[i], p);
     closed(roles, &directs, joins)
 }
 
 // Kind 5.
-pub(crate) fn withdrawn(roles: u64, sets: &[u64; 64], a: Role, b: Privilege) -> [u64; 64]
+pub(crate) fn withdrawn(roles: u64, sets: &[u64], a: Role, b: Privilege) -> [u64; 64]
     requires { ⌜ early (drawn-from roles (now sets)) (withdraw (a .0) (b .0)) ≡ passed ⌝ }
     ensures { λ s. ⌜ s ≡ close (edit (withdraw (a .0) (b .0)) (redraw (drawn-from roles (now (sets .entry))))) ⌝ }
 {
@@ -104,12 +104,12 @@ pub(crate) fn withdrawn(roles: u64, sets: &[u64; 64], a: Role, b: Privilege) -> 
     let p = b.0 as usize;
     let joins = drawing::draw(roles, sets);
     let mut directs = drawing::direct_sets(drawing::senior_roles(roles), sets, &joins);
-    directs[i] = sets::difference(directs[i], sets::single(p));
+    directs[i] = sets::remove(directs[i], p);
     closed(roles, &directs, joins)
 }
 
 // Kind 6.
-pub(crate) fn linked(roles: u64, sets: &[u64; 64], a: Role, b: Role) -> [u64; 64]
+pub(crate) fn linked(roles: u64, sets: &[u64], a: Role, b: Role) -> [u64; 64]
     requires { ⌜ early (drawn-from roles (now sets)) (add-edge (a .0) (b .0)) ≡ passed ⌝ }
     ensures { λ s. ⌜ s ≡ close (edit (add-edge (a .0) (b .0)) (redraw (drawn-from roles (now (sets .entry))))) ⌝ }
 {
@@ -122,7 +122,7 @@ pub(crate) fn linked(roles: u64, sets: &[u64; 64], a: Role, b: Role) -> [u64; 64
 }
 
 // Kind 7: a's juniors joined to b, and a to b's seniors.
-pub(crate) fn unlinked(roles: u64, sets: &[u64; 64], a: Role, b: Role) -> [u64; 64]
+pub(crate) fn unlinked(roles: u64, sets: &[u64], a: Role, b: Role) -> [u64; 64]
     requires { ⌜ early (drawn-from roles (now sets)) (remove-edge (a .0) (b .0)) ≡ passed ⌝ }
     ensures { λ s. ⌜ s ≡ close (edit (remove-edge (a .0) (b .0)) (redraw (drawn-from roles (now (sets .entry))))) ⌝ }
 {

@@ -4,7 +4,7 @@ ghost use mathlib.Core.Bool.{_||_};
 ghost use mathlib.Core.List.{[], _∷_, _++_};
 ghost use Rattle.sets.specs.Sets.{member};
 ghost use Rattle.graph.specs.Graph.{present};
-ghost use Rattle.graph.specs.Editing.{add-by-place, add-by-privileges, remove-role, grant, withdraw, add-edge, remove-edge};
+ghost use Rattle.graph.specs.Editing.{add-by-place, add-by-privileges, grant, withdraw, add-edge, remove-edge};
 ghost use Rattle.graph.specs.Refusing.{no-role-number, no-privilege-number, end-role, edge-to-itself, role-absent, verdict, early, state-checks};
 ghost use Rattle.graph.specs.Reading.{drawn-from, read-verdict, read-change};
 use crate::Change;
@@ -32,14 +32,7 @@ fn in_either(r: u8, s: u64, t: u64) -> bool
 }
 
 // Kind 1, by the fields and the roles.
-fn judge_place(
-    roles: u64,
-    sets: &[u64; 64],
-    a: Role,
-    own: u64,
-    juniors: u64,
-    seniors: u64,
-) -> Verdict
+fn judge_place(roles: u64, sets: &[u64], a: Role, own: u64, juniors: u64, seniors: u64) -> Verdict
     ensures { λ v. ⌜ read-verdict v ≡ early (drawn-from roles (now (sets .entry))) (add-by-place (a .0) own juniors seniors) ⌝ }
 {
     let r = a.0;
@@ -64,7 +57,7 @@ fn judge_place(
 }
 
 // Kind 1, by the graph at hand: 20, 21 and 25.
-fn judge_edges(roles: u64, sets: &[u64; 64], r: u8, juniors: u64, seniors: u64) -> Verdict
+fn judge_edges(roles: u64, sets: &[u64], r: u8, juniors: u64, seniors: u64) -> Verdict
     ensures { λ v. ⌜ read-verdict v ≡ verdict (state-checks (drawn-from roles (now (sets .entry))) (add-by-place r 0 juniors seniors)) ⌝ }
 {
     if is_present(roles, r) {
@@ -86,7 +79,7 @@ fn judge_edges(roles: u64, sets: &[u64; 64], r: u8, juniors: u64, seniors: u64) 
 }
 
 // Kind 2.
-fn judge_add(roles: u64, sets: &[u64; 64], a: Role, own: u64) -> Verdict
+fn judge_add(roles: u64, sets: &[u64], a: Role, own: u64) -> Verdict
     ensures { λ v. ⌜ read-verdict v ≡ early (drawn-from roles (now (sets .entry))) (add-by-privileges (a .0) own) ⌝ }
 {
     let r = a.0;
@@ -102,19 +95,18 @@ fn judge_add(roles: u64, sets: &[u64; 64], a: Role, own: u64) -> Verdict
     Verdict::Passed
 }
 
-// Kind 3, but for 24, which concerns seats.
-fn judge_remove(roles: u64, sets: &[u64; 64], a: Role, b: u8) -> Verdict
-    ensures { λ v. ⌜ read-verdict v ≡ early (drawn-from roles (now (sets .entry))) (remove-role (a .0) b) ⌝ }
+// What kinds 3, 10 and 11 want of the role that they name: refusals 2, 3 and 21.
+pub fn judge_role(roles: u64, a: Role) -> Verdict
+    ensures { λ v. ⌜ read-verdict v ≡ verdict (no-role-number (a .0) ∷ end-role (a .0) ∷ role-absent (drawn-from roles []) (a .0) ∷ []) ⌝ }
 {
-    let r = a.0;
-    if 64 <= r {
-        return refuse(2, r);
+    if 64 <= a.0 {
+        return refuse(2, a.0);
     }
-    if r < 2 {
-        return refuse(3, r);
+    if a.0 < 2 {
+        return refuse(3, a.0);
     }
-    if !is_present(roles, r) {
-        return refuse(21, r);
+    if !is_present(roles, a.0) {
+        return refuse(21, a.0);
     }
     Verdict::Passed
 }
@@ -141,7 +133,7 @@ fn judge_role_privilege(roles: u64, a: Role, b: Privilege) -> Verdict
 }
 
 // Kind 4.
-fn judge_grant(roles: u64, sets: &[u64; 64], a: Role, b: Privilege) -> Verdict
+fn judge_grant(roles: u64, sets: &[u64], a: Role, b: Privilege) -> Verdict
     ensures { λ v. ⌜ read-verdict v ≡ early (drawn-from roles (now (sets .entry))) (grant (a .0) (b .0)) ⌝ }
 {
     let named = judge_role_privilege(roles, a, b);
@@ -156,15 +148,14 @@ fn judge_grant(roles: u64, sets: &[u64; 64], a: Role, b: Privilege) -> Verdict
 }
 
 // Kind 5.
-fn judge_withdraw(roles: u64, sets: &[u64; 64], a: Role, b: Privilege) -> Verdict
+fn judge_withdraw(roles: u64, sets: &[u64], a: Role, b: Privilege) -> Verdict
     ensures { λ v. ⌜ read-verdict v ≡ early (drawn-from roles (now (sets .entry))) (withdraw (a .0) (b .0)) ⌝ }
 {
     let named = judge_role_privilege(roles, a, b);
     let Verdict::Passed = named else {
         return named;
     };
-    let own = drawing::direct_of(roles, sets, a);
-    if !sets::member(b.0 as usize, own) {
+    if !drawing::is_direct(roles, sets, a, b) {
         return refuse(23, a.0);
     }
     Verdict::Passed
@@ -201,7 +192,7 @@ fn judge_two_roles(roles: u64, a: Role, b: Role) -> Verdict
 }
 
 // Kind 6.
-fn judge_link(roles: u64, sets: &[u64; 64], a: Role, b: Role) -> Verdict
+fn judge_link(roles: u64, sets: &[u64], a: Role, b: Role) -> Verdict
     ensures { λ v. ⌜ read-verdict v ≡ early (drawn-from roles (now (sets .entry))) (add-edge (a .0) (b .0)) ⌝ }
 {
     let named = judge_two_roles(roles, a, b);
@@ -218,7 +209,7 @@ fn judge_link(roles: u64, sets: &[u64; 64], a: Role, b: Role) -> Verdict
 }
 
 // Kind 7.
-fn judge_unlink(roles: u64, sets: &[u64; 64], a: Role, b: Role) -> Verdict
+fn judge_unlink(roles: u64, sets: &[u64], a: Role, b: Role) -> Verdict
     ensures { λ v. ⌜ read-verdict v ≡ early (drawn-from roles (now (sets .entry))) (remove-edge (a .0) (b .0)) ⌝ }
 {
     let named = judge_two_roles(roles, a, b);
@@ -232,7 +223,7 @@ fn judge_unlink(roles: u64, sets: &[u64; 64], a: Role, b: Role) -> Verdict
 }
 
 // What refuses a change before closing, if anything does.
-pub fn judge(roles: u64, sets: &[u64; 64], change: Change) -> Verdict
+pub fn judge(roles: u64, sets: &[u64], change: Change) -> Verdict
     ensures { λ v. ⌜ read-verdict v ≡ early (drawn-from roles (now (sets .entry))) (read-change change) ⌝ }
 {
     match change {
@@ -245,7 +236,7 @@ pub fn judge(roles: u64, sets: &[u64; 64], change: Change) -> Verdict
             seniors,
         ),
         Change::AddByPrivileges(a, own) => judge_add(roles, sets, a, own),
-        Change::RemoveRole(a, b) => judge_remove(roles, sets, a, b),
+        Change::RemoveRole(a, _) => judge_role(roles, a),
         Change::Grant(a, b) => judge_grant(roles, sets, a, b),
         Change::Withdraw(a, b) => judge_withdraw(roles, sets, a, b),
         Change::AddEdge(a, b) => judge_link(roles, sets, a, b),

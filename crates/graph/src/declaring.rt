@@ -111,7 +111,7 @@ pub fn declared(conflicts: &[u64], a: Privilege, b: Privilege) -> Entry
 {
     let number = lower_of(a, b);
     let higher = higher_of(a, b);
-    let set = sets::union(entry(conflicts, number), sets::single(higher));
+    let set = sets::insert(entry(conflicts, number), higher);
     Entry { number, set }
 }
 
@@ -121,7 +121,7 @@ pub fn lifted(conflicts: &[u64], a: Privilege, b: Privilege) -> Entry
 {
     let number = lower_of(a, b);
     let higher = higher_of(a, b);
-    let set = sets::difference(entry(conflicts, number), sets::single(higher));
+    let set = sets::remove(entry(conflicts, number), higher);
     Entry { number, set }
 }
 

@@ -1,15 +1,16 @@
 // Redrawing: the order, the edges and the direct privileges that the roles present and their effective sets define.
 ghost use mathlib.Core.Path.{_≡_};
 ghost use mathlib.Core.Bool.{_&&_, cond};
-ghost use Rattle.sets.specs.Counting.{sum};
+ghost use Rattle.sets.specs.Counting.{any, sum};
 ghost use Rattle.sets.specs.Sets.{member, union, difference, strictly-included, size, collect, gather};
 ghost use Rattle.graph.specs.Tables.{at, table};
 ghost use Rattle.graph.specs.Graph.{role-count};
 ghost use Rattle.graph.specs.Drawing.{below, edge, juniors, seniors, edge-count, direct, roles-below, direct-table};
 ghost use Rattle.graph.specs.Reading.{drawn-from};
+use crate::Privilege;
 use crate::Role;
-use crate::entries::copied;
 use crate::entries::seniors_in;
+use crate::entries::whole;
 use crate::table::entry;
 
 // The ordinary roles: those present without the numbers of the end roles.
@@ -27,14 +28,14 @@ pub fn senior_roles(roles: u64) -> u64
 }
 
 // The roles of `all` whose sets are strictly included in `top`.
-fn included_in(all: u64, sets: &[u64; 64], top: u64) -> u64
+fn included_in(all: u64, sets: &[u64], top: u64) -> u64
     ensures { λ v. ⌜ v ≡ collect role-count (λ r. member r all && strictly-included (at (now (sets .entry)) r) top) ⌝ }
 {
     let mut found: u64 = 0;
     let mut rest = all;
     while rest != 0 {
         let r = sets::lowest_member(rest) as usize;
-        let on = sets::strictly_included(sets[r], top);
+        let on = sets::strictly_included(entry(sets, r), top);
         found = sets::union(found, sets::when(on, sets::lowest_alone(rest)));
         rest = sets::without_lowest(rest);
     }
@@ -42,7 +43,7 @@ fn included_in(all: u64, sets: &[u64; 64], top: u64) -> u64
 }
 
 // The roles below s: none for MinRole and for a number that is no role's.
-pub fn lower(roles: u64, sets: &[u64; 64], s: usize) -> u64
+pub fn lower(roles: u64, sets: &[u64], s: usize) -> u64
     ensures { λ v. ⌜ v ≡ roles-below (drawn-from roles (now (sets .entry))) s ⌝ }
 {
     let ordinary = ordinary_roles(roles);
@@ -56,7 +57,7 @@ pub fn lower(roles: u64, sets: &[u64; 64], s: usize) -> u64
 }
 
 // By role number, the roles below each role.
-fn lowers(roles: u64, sets: &[u64; 64]) -> [u64; 64]
+fn lowers(roles: u64, sets: &[u64]) -> [u64; 64]
     ensures { λ v. ⌜ v ≡ table role-count (roles-below (drawn-from roles (now (sets .entry)))) ⌝ }
 {
     let mut found = [0u64; 64];
@@ -71,40 +72,41 @@ fn lowers(roles: u64, sets: &[u64; 64]) -> [u64; 64]
 }
 
 // The union of a table's entries at the members of `all`.
-fn gathered(table: &[u64; 64], all: u64) -> u64
+fn gathered(table: &[u64], all: u64) -> u64
     ensures { λ v. ⌜ v ≡ gather role-count (λ r. member r all) (at (now (table .entry))) ⌝ }
 {
     let mut found: u64 = 0;
     let mut rest = all;
     while rest != 0 {
         let r = sets::lowest_member(rest) as usize;
-        found = sets::union(found, table[r]);
+        found = sets::union(found, entry(table, r));
         rest = sets::without_lowest(rest);
     }
     found
 }
 
 // The direct sets of the roles in `all`, by a table of their immediate juniors; any other role keeps its set.
-pub fn direct_sets(all: u64, sets: &[u64; 64], juniors: &[u64; 64]) -> [u64; 64]
+pub fn direct_sets(all: u64, sets: &[u64], juniors: &[u64; 64]) -> [u64; 64]
     ensures { λ v. ⌜ v ≡ direct-table all (now (sets .entry)) (now (juniors .entry)) ⌝ }
 {
-    let mut direct = copied(sets);
+    let mut direct = whole(sets);
     let mut rest = all;
     while rest != 0 {
         let s = sets::lowest_member(rest) as usize;
         let held = gathered(sets, juniors[s]);
-        direct[s] = sets::difference(sets[s], held);
+        direct[s] = sets::difference(entry(sets, s), held);
         rest = sets::without_lowest(rest);
     }
     direct
 }
 
 // By role number, the immediate juniors of each role: the roles below it without those below these, taken as direct sets are.
-pub fn draw(roles: u64, sets: &[u64; 64]) -> [u64; 64]
+pub fn draw(roles: u64, sets: &[u64]) -> [u64; 64]
     ensures { λ v. ⌜ v ≡ table role-count (juniors (drawn-from roles (now (sets .entry)))) ⌝ }
 {
     let lower = lowers(roles, sets);
-    direct_sets(senior_roles(roles), &lower, &lower)
+    let under = &lower;
+    direct_sets(senior_roles(roles), under, under)
 }
 
 // The sizes of a table's entries at the members of `all`, together.
@@ -122,7 +124,7 @@ fn total_size(table: &[u64; 64], all: u64) -> u32
 }
 
 // How many edges are drawn.
-pub fn edge_count(roles: u64, sets: &[u64; 64]) -> u32
+pub fn edge_count(roles: u64, sets: &[u64]) -> u32
     ensures { λ v. ⌜ v ≡ edge-count (drawn-from roles (now (sets .entry))) ⌝ }
 {
     let juniors = draw(roles, sets);
@@ -130,7 +132,7 @@ pub fn edge_count(roles: u64, sets: &[u64; 64]) -> u32
 }
 
 // Whether the role r lies below s.
-fn lies_below(roles: u64, sets: &[u64; 64], r: usize, s: usize) -> bool
+fn lies_below(roles: u64, sets: &[u64], r: usize, s: usize) -> bool
     ensures { λ v. ⌜ v ≡ below (drawn-from roles (now (sets .entry))) r s ⌝ }
 {
     let high = sets::member(s, senior_roles(roles));
@@ -139,39 +141,39 @@ fn lies_below(roles: u64, sets: &[u64; 64], r: usize, s: usize) -> bool
     high & (low & ((s == 1) | ((r == 0) | strict)))
 }
 
-// The roles of `all` that lie above r.
-fn above(roles: u64, sets: &[u64; 64], all: u64, r: usize) -> u64
-    ensures { λ v. ⌜ v ≡ collect role-count (λ s. member s all && below (drawn-from roles (now (sets .entry))) r s) ⌝ }
+// Whether some role lies between r and s; it is an ordinary one.
+fn has_between(roles: u64, sets: &[u64], r: usize, s: usize) -> bool
+    ensures { λ v. let g = drawn-from roles (now (sets .entry)) in ⌜ v ≡ any role-count (λ t. below g r t && below g t s) ⌝ }
 {
-    let mut found: u64 = 0;
-    let mut rest = all;
+    let mut rest = ordinary_roles(roles);
     while rest != 0 {
-        let s = sets::lowest_member(rest) as usize;
-        let on = lies_below(roles, sets, r, s);
-        found = sets::union(found, sets::when(on, sets::lowest_alone(rest)));
+        let t = sets::lowest_member(rest) as usize;
+        if lies_below(roles, sets, r, t) && lies_below(roles, sets, t, s) {
+            return true;
+        }
         rest = sets::without_lowest(rest);
     }
-    found
+    false
 }
 
 // Whether the role r lies below s.
-pub fn is_below(roles: u64, sets: &[u64; 64], r: Role, s: Role) -> bool
+pub fn is_below(roles: u64, sets: &[u64], r: Role, s: Role) -> bool
     ensures { λ v. ⌜ v ≡ below (drawn-from roles (now (sets .entry))) (r .0) (s .0) ⌝ }
 {
     lies_below(roles, sets, r.0 as usize, s.0 as usize)
 }
 
 // Whether an edge is drawn from r to s: r is below s, and no role lies between.
-pub fn is_edge(roles: u64, sets: &[u64; 64], r: Role, s: Role) -> bool
+pub fn is_edge(roles: u64, sets: &[u64], r: Role, s: Role) -> bool
     ensures { λ v. ⌜ v ≡ edge (drawn-from roles (now (sets .entry))) (r .0) (s .0) ⌝ }
 {
     let junior = r.0 as usize;
-    let under = lower(roles, sets, s.0 as usize);
-    sets::member(junior, under) & sets::is_empty(above(roles, sets, under, junior))
+    let senior = s.0 as usize;
+    lies_below(roles, sets, junior, senior) && !has_between(roles, sets, junior, senior)
 }
 
 // The roles below some member of `all`.
-fn all_lower(roles: u64, sets: &[u64; 64], all: u64) -> u64
+fn all_lower(roles: u64, sets: &[u64], all: u64) -> u64
     ensures { λ v. ⌜ v ≡ gather role-count (λ s. member s all) (roles-below (drawn-from roles (now (sets .entry)))) ⌝ }
 {
     let mut found: u64 = 0;
@@ -185,7 +187,7 @@ fn all_lower(roles: u64, sets: &[u64; 64], all: u64) -> u64
 }
 
 // The immediate juniors of s: the roles below it that lie below none of these.
-pub fn juniors_of(roles: u64, sets: &[u64; 64], s: Role) -> u64
+pub fn juniors_of(roles: u64, sets: &[u64], s: Role) -> u64
     ensures { λ v. ⌜ v ≡ juniors (drawn-from roles (now (sets .entry))) (s .0) ⌝ }
 {
     let under = lower(roles, sets, s.0 as usize);
@@ -193,7 +195,7 @@ pub fn juniors_of(roles: u64, sets: &[u64; 64], s: Role) -> u64
 }
 
 // The immediate seniors of r: the roles whose immediate juniors have it.
-pub fn seniors_of(roles: u64, sets: &[u64; 64], r: Role) -> u64
+pub fn seniors_of(roles: u64, sets: &[u64], r: Role) -> u64
     ensures { λ v. ⌜ v ≡ seniors (drawn-from roles (now (sets .entry))) (r .0) ⌝ }
 {
     let joins = draw(roles, sets);
@@ -201,16 +203,37 @@ pub fn seniors_of(roles: u64, sets: &[u64; 64], r: Role) -> u64
 }
 
 // The effective privileges of s.
-pub fn effective_of(sets: &[u64; 64], s: Role) -> u64
+pub fn effective_of(sets: &[u64], s: Role) -> u64
     ensures { λ v. ⌜ v ≡ at (now (sets .entry)) (s .0) ⌝ }
 {
     entry(sets, s.0 as usize)
 }
 
+// What the immediate juniors of s have: what the ordinary roles below s have, and where there is none what MinRole has.
+fn inherited(roles: u64, sets: &[u64], s: usize) -> u64
+    ensures { λ v. let g = drawn-from roles (now (sets .entry)) in ⌜ v ≡ gather role-count (λ r. edge g r s) (at (now (sets .entry))) ⌝ }
+{
+    let under = lower(roles, sets, s);
+    let ordinary = sets::difference(under, 1);
+    let among = if ordinary == 0 { under } else { ordinary };
+    gathered(sets, among)
+}
+
 // The direct privileges of s: its effective ones that no immediate junior has.
-pub fn direct_of(roles: u64, sets: &[u64; 64], s: Role) -> u64
+pub fn direct_of(roles: u64, sets: &[u64], s: Role) -> u64
     ensures { λ v. ⌜ v ≡ direct (drawn-from roles (now (sets .entry))) (s .0) ⌝ }
 {
-    let held = gathered(sets, juniors_of(roles, sets, s));
+    let held = inherited(roles, sets, s.0 as usize);
     sets::difference(effective_of(sets, s), held)
+}
+
+// Whether the privilege is direct in s; what s does not hold is not, whatever its juniors have.
+pub fn is_direct(roles: u64, sets: &[u64], s: Role, privilege: Privilege) -> bool
+    ensures { λ v. ⌜ v ≡ member (privilege .0) (direct (drawn-from roles (now (sets .entry))) (s .0)) ⌝ }
+{
+    let p = privilege.0 as usize;
+    if !sets::member(p, effective_of(sets, s)) {
+        return false;
+    }
+    !sets::member(p, inherited(roles, sets, s.0 as usize))
 }

@@ -2,6 +2,7 @@
 ghost use mathlib.Core.Path.{_≡_};
 ghost use lib.Dec.{ltb};
 ghost use Rattle.sets.specs.Sets as spec;
+ghost use Rattle.graph.specs.Graph as graph;
 ghost use Rattle.graph.specs.Editing.{changed};
 ghost use Rattle.graph.specs.Refusing.{passed, early, judged, keep};
 ghost use Rattle.graph.specs.Reading.{drawn-from, read-graph, read-change, read-attempt, read-outcome};
@@ -13,12 +14,11 @@ use crate::Role;
 use crate::Verdict;
 use crate::changing;
 use crate::checking;
-use crate::entries;
 use crate::refusing;
 
 // A change that nothing refused.
 fn done(roles: u64, sets: [u64; 64]) -> Attempt
-    ensures { λ r. (⌜ read-attempt r ≡ (passed, drawn-from roles sets) ⌝) }
+    ensures { λ r. ⌜ ((g : graph.Graph) → read-attempt g r ≡ (passed, drawn-from roles sets)) ⌝ }
 {
     let verdict = Verdict::Passed;
     Attempt {
@@ -33,7 +33,7 @@ fn with_role(roles: u64, a: Role) -> u64
     ensures { λ r. ⌜ r ≡ spec.union roles (spec.when (ltb (a .0) 64) (spec.single (a .0))) ⌝ }
 {
     let i = a.0 as usize;
-    sets::union(roles, sets::single(i))
+    sets::insert(roles, i)
 }
 
 // The roles without one.
@@ -41,13 +41,13 @@ fn without_role(roles: u64, a: Role) -> u64
     ensures { λ r. ⌜ r ≡ spec.difference roles (spec.when (ltb (a .0) 64) (spec.single (a .0))) ⌝ }
 {
     let i = a.0 as usize;
-    sets::difference(roles, sets::single(i))
+    sets::remove(roles, i)
 }
 
 // The change carried out, where the checks before closing passed.
-fn carry_out(roles: u64, sets: &[u64; 64], change: Change) -> Attempt
+fn carry_out(roles: u64, sets: &[u64], change: Change) -> Attempt
     requires { ⌜ early (drawn-from roles (now sets)) (read-change change) ≡ passed ⌝ }
-    ensures { λ r. ⌜ read-attempt r ≡ (passed, changed (drawn-from roles (now (sets .entry))) (read-change change)) ⌝ }
+    ensures { λ r. let g = drawn-from roles (now (sets .entry)) in ⌜ read-attempt g r ≡ (passed, changed g (read-change change)) ⌝ }
 {
     match change {
         Change::AddByPlace(a, own, juniors, seniors) => {
@@ -69,21 +69,18 @@ fn carry_out(roles: u64, sets: &[u64; 64], change: Change) -> Attempt
     }
 }
 
-// Refusals 2 to 5 and 20 to 25 but for 24; where none comes, the roles and sets after the change.
-pub fn attempt(roles: u64, sets: &[u64; 64], change: Change) -> Attempt
-    ensures { λ r. ⌜ read-attempt r ≡ keep (early (drawn-from roles (now (sets .entry))) (read-change change)) (drawn-from roles (now (sets .entry))) (changed (drawn-from roles (now (sets .entry))) (read-change change)) ⌝ }
+// Refusals 2 to 5 and 20 to 25 but for 24; where none comes, the roles and sets after the change, and otherwise no sets.
+pub fn attempt(roles: u64, sets: &[u64], change: Change) -> Attempt
+    ensures { λ r. let g = drawn-from roles (now (sets .entry)) in ⌜ read-attempt g r ≡ keep (early g (read-change change)) g (changed g (read-change change)) ⌝ }
 {
     let verdict = checking::judge(roles, sets, change);
     match verdict {
         Verdict::Passed => carry_out(roles, sets, change),
-        Verdict::Refused(_) => {
-            let same = entries::copied(sets);
-            Attempt {
-                verdict,
-                roles,
-                sets: same,
-            }
-        }
+        Verdict::Refused(_) => Attempt {
+            verdict,
+            roles,
+            sets: [0u64; 64],
+        },
     }
 }
 

@@ -61,7 +61,7 @@ pub enum Change {
     RemoveEdge(Role, Role),
 }
 
-// What a change comes to before 26 to 30 are judged: its verdict, and the roles and sets after it.
+// What a change comes to before 26 to 30 are judged: its verdict, and where it passed the roles and sets after it.
 pub struct Attempt {
     pub verdict: Verdict,
     pub roles: u64,

@@ -8,9 +8,11 @@ ghost use Rattle.sets.specs.Sets.{member, included, lowest-member};
 ghost use Rattle.graph.specs.Tables.{at};
 ghost use Rattle.graph.specs.Graph.{role-count, is-end, present};
 ghost use Rattle.graph.specs.Conflicts.{holds-both, holds-pair};
+ghost use Rattle.graph.specs.Drawing.{below};
 ghost use Rattle.graph.specs.Refusing.{at-or-below, empty-role, twin-role, pair-role, offered-role, refused, verdict, still-below, closed-checks};
 ghost use Rattle.graph.specs.Reading.{drawn-from, graph-of, read-verdict, read-change};
-use super::drawing::lower;
+use super::drawing::ordinary_roles;
+use super::drawing::senior_roles;
 use crate::Change;
 use crate::Privilege;
 use crate::Refusal;
@@ -93,7 +95,7 @@ pub fn holds_pair(conflicts: &[u64], s: u64) -> bool
 }
 
 // The lowest ordinary role that holds both privileges of some declared conflict.
-pub fn pair_role<'a>(roles: u64, sets: &'a [u64; 64], conflicts: &'a [u64; 64]) -> u8
+pub fn pair_role<'a>(roles: u64, sets: &'a [u64; 64], conflicts: &'a [u64]) -> u8
     ensures { λ r. ⌜ r ≡ lowest role-count (pair-role (graph-of roles (now (sets .entry)) (now (conflicts .entry)))) ⌝ }
 {
     let mut place: u8 = 64;
@@ -106,7 +108,7 @@ pub fn pair_role<'a>(roles: u64, sets: &'a [u64; 64], conflicts: &'a [u64; 64]) 
             let p = first(left);
             let j = p as usize;
             left = sets::without_lowest(left);
-            if left & conflicts[j] != 0 {
+            if left & entry(conflicts, j) != 0 {
                 place = r;
                 break 'roles;
             }
@@ -155,16 +157,34 @@ pub fn absent_in(roles: u64, s: u64) -> u8
     first(sets::difference(s, sets::union(ENDS, roles)))
 }
 
+// Whether some role of `all` lies below j: j can lie above others, and a role that can lie below others has a set that j's strictly includes.
+fn some_below(roles: u64, sets: &[u64], all: u64, j: usize) -> bool
+    ensures { λ r. ⌜ r ≡ any role-count (λ s. member s all && below (drawn-from roles (now (sets .entry))) s j) ⌝ }
+{
+    if !sets::member(j, senior_roles(roles)) {
+        return false;
+    }
+    let top = entry(sets, j);
+    let mut rest = sets::intersection(all, sets::union(ordinary_roles(roles), 1));
+    while rest != 0 {
+        let s = first(rest) as usize;
+        if j == 1 || s == 0 || sets::strictly_included(entry(sets, s), top) {
+            return true;
+        }
+        rest = sets::without_lowest(rest);
+    }
+    false
+}
+
 // Whether some senior is j or lies below it.
-fn circle_at(roles: u64, sets: &[u64; 64], seniors: u64, j: usize) -> bool
+fn circle_at(roles: u64, sets: &[u64], seniors: u64, j: usize) -> bool
     ensures { λ r. ⌜ r ≡ any role-count (λ s. member s seniors && at-or-below (drawn-from roles (now (sets .entry))) s j) ⌝ }
 {
-    let under = sets::union(lower(roles, sets, j), sets::single(j));
-    sets::intersection(under, seniors) != 0
+    sets::member(j, seniors) || some_below(roles, sets, seniors, j)
 }
 
 // The lowest junior that some senior is or lies below.
-pub fn circle_in(roles: u64, sets: &[u64; 64], juniors: u64, seniors: u64) -> u8
+pub fn circle_in(roles: u64, sets: &[u64], juniors: u64, seniors: u64) -> u8
     ensures { λ r. ⌜ r ≡ lowest role-count (λ j. member j juniors && any role-count (λ s. member s seniors && at-or-below (drawn-from roles (now (sets .entry))) s j)) ⌝ }
 {
     let mut rest = juniors;
@@ -187,7 +207,7 @@ pub fn refuse(number: u8, place: u8) -> Verdict
 }
 
 // Refusals 27 to 29 of a graph after closing.
-fn judge_sets<'a>(roles: u64, sets: &'a [u64; 64], conflicts: &'a [u64; 64]) -> Verdict
+fn judge_sets<'a>(roles: u64, sets: &'a [u64; 64], conflicts: &'a [u64]) -> Verdict
     ensures { λ r. ⌜ read-verdict r ≡ verdict (closed-checks (graph-of roles (now (sets .entry)) (now (conflicts .entry)))) ⌝ }
 {
     let empty = empty_role(roles, sets);
@@ -218,7 +238,7 @@ fn still_below(sets: &[u64; 64], a: Role, b: Role) -> bool
 pub fn judge_closed<'a>(
     roles: u64,
     sets: &'a [u64; 64],
-    conflicts: &'a [u64; 64],
+    conflicts: &'a [u64],
     change: Change,
 ) -> Verdict
     ensures { λ r. let h = graph-of roles (now (sets .entry)) (now (conflicts .entry)) in ⌜ read-verdict r ≡ verdict (still-below h (read-change change) ++ closed-checks h) ⌝ }

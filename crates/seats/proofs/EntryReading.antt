@@ -13,9 +13,8 @@ use lib.Bits.{or-zero-l}
 use lib.Dec.{T, leb, leb→le, le→leb, ltb, ltb→lt}
 use Rattle.sets.specs.Sets.{member, single, union}
 use Rattle.sets.proofs.Tests.{both, join}
-use Rattle.sets.proofs.Laws.{member-union, equal-members}
+use Rattle.sets.proofs.Laws.{member-union, equal-members, union-empty}
 use Rattle.graph.specs.Tables.{at, put}
-use Rattle.graph.proofs.Stores.{union-empty}
 use Rattle.seats.specs.Bytes.{number-at, Bytes}
 use Rattle.seats.specs.Images.{Entry, entries-at, keys, stored, stored-pairs, pair-place}
 use Rattle.seats.specs.ImageWork.{entry-of, ascends, numbered, paired, TableRead, PairsRead}

@@ -4,13 +4,12 @@ use mathlib.Core.Path.{_≡_, refl, sym, ap, _∙_, subst}
 use mathlib.Core.List.{List}
 use Prim.Native.Nat.{ℕ}
 use native.Mathlib.Omega.{arith}
-use Rattle.seats.specs.Bytes.{Bytes}
 use Rattle.seats.specs.Seats as seats
 use Rattle.seats.specs.Calls.{accepted, refused}
 use Rattle.seats.specs.Calls as calls
 use Rattle.seats.specs.Images.{Loaded, loaded, not-loaded, load, settle-load, load-over}
 use Rattle.seats.specs.ListTheorem.{Start, from-fresh, from-image, ListTheorem}
-use Rattle.seats.specs.Promises.{StepPromise, LoadPromise, KeeperStart, made-fresh, made-by-loading, KeeperTheorem, DemandThreeOnCode}
+use Rattle.seats.specs.Promises.{StepPromise, KeeperStart, made-fresh, made-by-loading, DemandThreeOnCode}
 use Rattle.seats.specs.Reading.{read-state, read-answer}
 use Rattle.seats.specs.declared.State.{State}
 use Rattle.seats.specs.declared.Answer.{Answer}

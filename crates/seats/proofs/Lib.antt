@@ -2,6 +2,7 @@ pub mod Settling
 pub mod Keeping
 pub mod Recorded
 pub mod Asking
+pub mod Asks
 pub mod History
 pub mod Fresh
 pub mod Numbers

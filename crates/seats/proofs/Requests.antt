@@ -8,19 +8,21 @@ use Prim.Native.Nat.{ℕ, max, _<_}
 use native.Mathlib.Omega.{arith}
 use native.Mathlib.Decide.{ℕ-discrete, decLt}
 use borrow.Author.Tests.{lt-ltb, le-ltb, eq-eqb, ne-eqb}
+use lib.Bits.{or-zero-l}
 use lib.Dec.{eqb, ltb}
 use lib.ListN.{length, set}
 use lib.Seq.{getD-set-same, getD-set-other, set-out}
-use Rattle.sets.specs.Sets.{member, single, union, when, gather}
-use Rattle.sets.proofs.Laws.{member-empty, member-union, member-when, member-single, gather-cong}
+use Rattle.sets.specs.Counting.{any}
+use Rattle.sets.specs.Sets.{digit, member, single, union, when, gather}
+use Rattle.sets.proofs.Laws.{member-empty, member-union, member-when, member-single, gather-cong, union-empty}
 use Rattle.graph.specs.Tables.{at, put, stored}
 use Rattle.graph.specs.Graph.{Graph, role-count, privilege-count}
+use Rattle.graph.specs.Conflicts.{holds-both, holds-pair}
 use Rattle.graph.specs.Refusing.{Check, Verdict, passed, verdict, no-role-number, end-role, role-absent, declare-checks, lift-checks}
 use Rattle.graph.specs.Refusing as refusing
 use Rattle.graph.proofs.Refusals.{Passes, passed-passes, number-lt}
-use Rattle.graph.proofs.Stores.{union-empty}
 use Rattle.seats.specs.Seats.{State, seat-count}
-use Rattle.seats.specs.Calls.{Call, Answer, refused, no-seat-number, checks, after, reply, settle, perform}
+use Rattle.seats.specs.Calls.{Call, refused, no-seat-number, checks, after, reply, settle, perform}
 
 -- ---- verdicts
 module _ (s : State) (c : Call) where
@@ -79,6 +81,11 @@ pub when-empty : (b : Bool) → when b 0 ≡ 0
 unfolding when
 when-empty true = refl
 when-empty false = refl
+
+-- No set joined with a set is that set.
+pub empty-union : (s : ℕ) → union 0 s ≡ s
+unfolding union
+empty-union s = or-zero-l s
 
 -- An entry of a table where b is put into entry a, if there is such an entry.
 at-put : (l : List ℕ) (a b i : ℕ) → at (put l a b) i ≡ union (at l i) (when (eqb i a) (when (ltb a (length l)) (single b)))
@@ -139,3 +146,12 @@ module _ (sets : List ℕ) where
   -- Where nothing is added, the seat has its own roles.
   pub joint-none : (l : List ℕ) (a i : ℕ) → joint (union (at l i) (when (eqb i a) 0)) ≡ joint (at l i)
   joint-none l a i = ap joint (ap (union (at l i)) (when-empty (eqb i a)) ∙ union-empty (at l i))
+
+  -- No roles hold no pair, declared or offered.
+  pub none-pair : (C : List ℕ) → holds-pair C (joint 0) ≡ false
+  unfolding holds-pair any gather when union member digit
+  none-pair C = refl
+
+  pub none-both : (a b : ℕ) → holds-both a b (joint 0) ≡ false
+  unfolding holds-both gather when union member digit
+  none-both a b = rw (member-empty a)

@@ -1,12 +1,12 @@
 -- A loop over the numbers below n, from 0 on, that leaves at the first that passes a test.
 -- Assumes nothing.
-use mathlib.Core.Path.{_≡_, refl, sym, ap, _∙_, subst}
+use mathlib.Core.Path.{_≡_, sym, ap, _∙_, subst}
 use mathlib.Core.Bool.{Bool, true, false}
 use Prim.Native.Nat.{ℕ, _+_, _<_, _≤_}
 use native.Mathlib.Decide.{ℕ-discrete}
 use native.Mathlib.Omega.{arith}
 use lib.Dec.{T}
-use Rattle.sets.specs.Counting.{any, lowest}
+use Rattle.sets.specs.Counting.{lowest}
 use Rattle.sets.proofs.Counting.{any-some, lowest-is, lowest-none}
 
 -- No number below i passes.

@@ -12,5 +12,6 @@ pub mod Working
 pub mod ImageWork
 pub mod Invariants
 pub mod ListTheorem
+pub mod Asks
 pub mod Promises
 pub mod Computes

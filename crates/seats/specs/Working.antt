@@ -1,12 +1,13 @@
--- What the contracts of private functions speak of: the fields of a record by themselves, what refuses a change after closing, and text put into a buffer.
+-- What the contracts of private functions speak of: the fields of a record by themselves, what refuses the removal of a role and any change after closing, and text put into a buffer.
 use mathlib.Core.List.{List, [], _∷_, _++_}
 use mathlib.Core.Path.{_≡_}
 use Prim.Native.Nat.{ℕ, _+_, _*_}
 use lib.ListN.{length, getD}
 use lib.Seq.{sets}
-use Rattle.graph.specs.Editing.{Change}
-use Rattle.graph.specs.Refusing.{Check, refuse-lowest, still-below, closed-checks}
+use Rattle.graph.specs.Editing.{Change, add-by-place, add-by-privileges, remove-role, grant, withdraw, add-edge, remove-edge}
+use Rattle.graph.specs.Refusing.{Check, refuse-lowest, input-checks, state-checks, still-below, closed-checks}
 use Rattle.seats.specs.Seats.{State, seat-count, pair-seat}
+use Rattle.seats.specs.Calls.{seat-checks}
 use Rattle.seats.specs.Records.{Fields}
 use Rattle.seats.specs.Tape.{digits, space, line-feed}
 
@@ -17,6 +18,16 @@ quad-of l i = getD l i 0 + 256 * getD l (i + 1) 0 + 65536 * getD l (i + 2) 0 + 1
 -- The fields of a record beside its kind.
 abbrev pub fields-of : ℕ → ℕ → ℕ → ℕ → ℕ → Fields
 fields-of a b x y z = record { a = a; b = b; x = x; y = y; z = z }
+
+-- What refuses kind 3 before closing, 24 by the seats among it; the other kinds have no check here.
+unfoldable pub removal-checks : State → Change → List Check
+removal-checks s (remove-role a b) = (input-checks (remove-role a b) ++ state-checks (s .graph) (remove-role a b)) ++ seat-checks s (remove-role a b)
+removal-checks s (add-by-place a own juniors seniors) = []
+removal-checks s (add-by-privileges a own) = []
+removal-checks s (grant a b) = []
+removal-checks s (withdraw a b) = []
+removal-checks s (add-edge a b) = []
+removal-checks s (remove-edge a b) = []
 
 -- Refusals 26 to 30, h being the state that the change would leave.
 abbrev pub after-checks : State → Change → List Check

@@ -17,6 +17,7 @@ use graph::Entry;
 use graph::Privilege;
 use graph::Role;
 use graph::Verdict;
+use graph::checking;
 use graph::declaring;
 use graph::refusing::refuse;
 use graph::table::entry;
@@ -96,17 +97,7 @@ fn judge_seat(roles: u64, a: Seat, b: Role) -> Verdict
     if 64 <= a.0 {
         return refuse(2, a.0);
     }
-    if 64 <= b.0 {
-        return refuse(2, b.0);
-    }
-    if b.0 < 2 {
-        return refuse(3, b.0);
-    }
-    let r = b.0 as usize;
-    if !sets::member(r, roles) {
-        return refuse(21, b.0);
-    }
-    Verdict::Passed
+    checking::judge_role(roles, b)
 }
 
 // Kind 10.
@@ -134,7 +125,7 @@ fn decide_assign<'a>(
             if place < 64 {
                 return unchanged(refusal(30, place));
             }
-            let set = sets::union(own, sets::single(r));
+            let set = sets::insert(own, r);
             Decision {
                 answer: Answer::Accepted,
                 conflict: none(),
@@ -165,7 +156,7 @@ fn decide_unassign<'a>(
             if !sets::member(r, own) {
                 return unchanged(refusal(23, a.0));
             }
-            let set = sets::difference(own, sets::single(r));
+            let set = sets::remove(own, r);
             Decision {
                 answer: Answer::Accepted,
                 conflict: none(),

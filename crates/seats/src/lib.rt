@@ -71,7 +71,7 @@ pub struct Decision {
     pub seat: Entry,
 }
 
-// What a change comes to: its answer, and the roles and sets after it.
+// What a change comes to: its answer, and where it is accepted the roles and sets after it.
 pub struct Changed {
     pub answer: Answer,
     pub roles: u64,

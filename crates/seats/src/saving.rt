@@ -21,6 +21,7 @@ use crate::layout::ENDS;
 use crate::layout::distance;
 use crate::layout::only;
 use graph::Refusal;
+use graph::table::entry;
 
 // The n bytes of x, little-endian, at a place; gives the place behind them.
 fn put_number(buffer: &mut [u8], at: usize, n: usize, x: u64) -> usize
@@ -47,7 +48,7 @@ fn put_entry(buffer: &mut [u8], at: usize, n: usize, key: u8, value: u64) -> usi
 }
 
 // Each of the keys with its entry of a table: the roles or the seats.
-fn put_table(buffer: &mut [u8], at: usize, keys: u64, table: &[u64; 64]) -> usize
+fn put_table(buffer: &mut [u8], at: usize, keys: u64, table: &[u64]) -> usize
     requires { ⌜ at + length (entry-bytes set-bytes (table-entries keys (now table))) ≤ length (now buffer) ⌝ }
     ensures { λ r. ⌜ Wrote (now (buffer .entry)) at (entry-bytes set-bytes (table-entries keys (now (table .entry)))) (now (buffer .exit)) r ⌝ }
 {
@@ -56,7 +57,7 @@ fn put_table(buffer: &mut [u8], at: usize, keys: u64, table: &[u64; 64]) -> usiz
     while rest != 0 {
         let k = sets::lowest_member(rest);
         let i = k as usize;
-        place = put_entry(buffer, place, 8, k as u8, table[i]);
+        place = put_entry(buffer, place, 8, k as u8, entry(table, i));
         rest = sets::without_lowest(rest);
     }
     place
@@ -78,17 +79,17 @@ fn put_row(buffer: &mut [u8], at: usize, lower: u8, row: u64) -> usize
 }
 
 // The higher privileges in conflict with a lower one.
-fn row(conflicts: &[u64; 64], lower: usize) -> u64
+fn row(conflicts: &[u64], lower: usize) -> u64
     requires { ⌜ lower < privilege-count ⌝ }
     ensures { λ r. ⌜ r ≡ collect privilege-count (conflict (now (conflicts .entry)) lower) ⌝ }
 {
     let own = only(lower);
     let not_higher = sets::union(own, own - 1);
-    sets::difference(conflicts[lower], not_higher)
+    sets::difference(entry(conflicts, lower), not_higher)
 }
 
 // How many conflicts are declared.
-fn count_conflicts(conflicts: &[u64; 64]) -> usize
+fn count_conflicts(conflicts: &[u64]) -> usize
     ensures { λ r. ⌜ (r ≡ length (pair-entries (now (conflicts .entry)))) × (r ≤ 2016) ⌝ }
 {
     let mut n: usize = 0;
@@ -100,7 +101,7 @@ fn count_conflicts(conflicts: &[u64; 64]) -> usize
 }
 
 // The conflicts, row by row.
-fn put_conflicts(buffer: &mut [u8], at: usize, conflicts: &[u64; 64]) -> usize
+fn put_conflicts(buffer: &mut [u8], at: usize, conflicts: &[u64]) -> usize
     requires { ⌜ at + length (entry-bytes privilege-bytes (pair-entries (now conflicts))) ≤ length (now buffer) ⌝ }
     ensures { λ r. ⌜ Wrote (now (buffer .entry)) at (entry-bytes privilege-bytes (pair-entries (now (conflicts .entry)))) (now (buffer .exit)) r ⌝ }
 {
@@ -113,12 +114,12 @@ fn put_conflicts(buffer: &mut [u8], at: usize, conflicts: &[u64; 64]) -> usize
 }
 
 // The seats that have roles.
-fn occupied(seats: &[u64; 64]) -> u64
+fn occupied(seats: &[u64]) -> u64
     ensures { λ r. ⌜ r ≡ collect seat-count (λ i. not (eqb (at (now (seats .entry)) i) empty)) ⌝ }
 {
     let mut found: u64 = 0;
     for i in 0..64usize {
-        let one = sets::when(seats[i] != 0, only(i));
+        let one = sets::when(entry(seats, i) != 0, only(i));
         found = sets::union(one, found);
     }
     found
@@ -139,9 +140,9 @@ fn put_trailer(buffer: &mut [u8], at: usize, roles: usize, seats: usize, conflic
 // The image at the buffer's front and its length; refusal 9, before anything is touched, where the buffer is shorter.
 pub fn save<'a>(
     roles: u64,
-    sets: &'a [u64; 64],
-    conflicts: &'a [u64; 64],
-    seats: &'a [u64; 64],
+    sets: &'a [u64],
+    conflicts: &'a [u64],
+    seats: &'a [u64],
     buffer: &mut [u8],
 ) -> Filled
     ensures { λ r. ⌜ (read-filled r, now (buffer .exit)) ≡ save (record { graph = graph-of roles (now (sets .entry)) (now (conflicts .entry)); seats = now (seats .entry) }) (now (buffer .entry)) ⌝ }
@@ -158,7 +159,7 @@ pub fn save<'a>(
             place: 0,
         });
     }
-    let roles_at = put_number(buffer, 0, 8, sets[1]);
+    let roles_at = put_number(buffer, 0, 8, entry(sets, 1));
     let conflicts_at = put_table(buffer, roles_at, ordinary, sets);
     let seats_at = put_conflicts(buffer, conflicts_at, conflicts);
     let trailer_at = put_table(buffer, seats_at, taken, seats);

@@ -12,7 +12,6 @@ ghost use Rattle.seats.specs.Calls.{refused};
 ghost use Rattle.seats.specs.Reading.{state-of, read-answer};
 use crate::Answer;
 use crate::Seat;
-use crate::seating::held_by;
 use graph::Privilege;
 use graph::Refusal;
 use graph::Role;
@@ -67,7 +66,7 @@ fn pair_seat_with<'a>(
     for i in 0..64u8 {
         let n = i as usize;
         let roles = sets::union(entry(seats, n), sets::when(n == a, added));
-        if holds_pair(conflicts, joined(sets, roles)) {
+        if roles != 0 && holds_pair(conflicts, joined(sets, roles)) {
             return i;
         }
     }
@@ -93,7 +92,7 @@ pub(crate) fn pair_seat_after<'a>(
 {
     let i = a.0 as usize;
     let known = i < seats.len();
-    let added = sets::when(known, sets::single(b.0 as usize));
+    let added = sets::when(known, sets::insert(0, b.0 as usize));
     pair_seat_with(sets, conflicts, seats, i, added)
 }
 
@@ -102,7 +101,8 @@ pub(crate) fn offered_seat<'a>(sets: &'a [u64], seats: &'a [u64], a: Privilege, 
     ensures { λ v. ⌜ v ≡ lowest seat-count (offered-seat (state-of 0 (now (sets .entry)) [] (now (seats .entry))) (a .0) (b .0)) ⌝ }
 {
     for i in 0..64u8 {
-        if holds_both(a, b, held_by(sets, seats, Seat(i))) {
+        let own = entry(seats, i as usize);
+        if own != 0 && holds_both(a, b, joined(sets, own)) {
             return i;
         }
     }

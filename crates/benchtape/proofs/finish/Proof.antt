@@ -8,6 +8,9 @@ use Rattle.benchtape.proofs.Sittings.{line-told, edges-of}
 use Rattle.benchtape.proofs.finish.Statement.{statement}
 use Rattle.benchtape.proofs.finish.Tie as tie
 
+slice-aggregate-edge-count : tie.Need-slice-aggregate-edge-count
+slice-aggregate-edge-count c = search needs
+
 edge-count-requires : tie.Need-edge-count-requires
 edge-count-requires c κs = search needs
 
@@ -66,6 +69,7 @@ pub finish-spec : {M : Type 1} → statement M
 finish-spec =
     tie.close
     (tie.spec
+    slice-aggregate-edge-count
     edge-count-requires
     cast-edges
     slice-aggregate-write-end

@@ -40,14 +40,14 @@ returns-2 c =
     rw (le-leb _ _ (c .before .before .before .before .if1 .left))
     (gives W (refused 1 0) (state-in W) (c .refusal-code .ensures .0) (sym (holds-own W (omega (arith, c .before .before .before .before .if1 .left)))) (ap (perform-decoded (state-in W)) d))
 
-enum-told-2 : tie.Need-enum-told-2
-enum-told-2 c = search needs
+enum-known-call : tie.Need-enum-known-call
+enum-known-call c = search needs
 
 take-change-requires : tie.Need-take-change-requires
 take-change-requires c κs = search needs
 
-enum-known-call : tie.Need-enum-known-call
-enum-known-call c = search needs
+enum-known-call-2 : tie.Need-enum-known-call-2
+enum-known-call-2 c = search needs
 
 take-request-requires : tie.Need-take-request-requires
 take-request-requires c κs = search needs
@@ -56,10 +56,14 @@ same-length : tie.Need-same-length
 same-length c = search needs
 
 returns-3 : tie.Need-returns-3
-unfolding call-block of-state read-decoded read-call
+unfolding call-block of-state step perform-decoded read-decoded read-call
 returns-3 c =
-    let d = sym (c .before .before .before .before .before .before .before .before .before .decode .ensures) ∙ ap read-decoded (c .before .before .before .before .before .before .before .decoded .given .1) ∙ ap (λ (k : Call). well-formed (read-call k)) (c .before .before .before .before .enum-told2 .given .1) in
-    rw (le-leb _ _ (c .before .before .before .before .before .before .before .before .before .before .if1 .left)) (c .before .before .take-change .ensures _ d)
+    let k = c .before .before .before .before .before in
+    let d = k .before .before .before in
+    let m = d .before .before in
+    let W = m .before .before .before .before .args .block .now in
+    let e = sym (m .decode .ensures) ∙ ap read-decoded (d .decoded .given .1) ∙ ap (λ (q : Call). well-formed (read-call q)) (k .call .given .1) in
+    rw (le-leb _ _ (m .before .if1 .left)) (c .before .before .take-change .ensures ∙ ap (λ (q : Decoded). given W (perform-decoded (state-in W) q)) (sym e))
 
 same-length-2 : tie.Need-same-length-2
 same-length-2 c = search needs
@@ -67,10 +71,12 @@ same-length-2 c = search needs
 returns-4 : tie.Need-returns-4
 unfolding call-block of-state step perform-decoded read-decoded read-call
 returns-4 c =
-    let s = c .before .before .before .before .before .before .before .before .before .before .before .before .before .before in
-    let W = s .args .block .now in
-    let d = sym (c .before .before .before .before .before .before .before .before .before .before .decode .ensures) ∙ ap read-decoded (c .before .before .before .before .before .before .before .before .decoded .given .1) ∙ ap (λ (k : Call). well-formed (read-call k)) (c .before .before .before .before .before .call .given .1) in
-    rw (le-leb _ _ (c .before .before .before .before .before .before .before .before .before .before .before .if1 .left)) (c .before .before .take-request .ensures ∙ ap (λ (k : Decoded). given W (perform-decoded (state-in W) k)) (sym d))
+    let k = c .before .before .before .before .before in
+    let d = k .before .before .before in
+    let m = d .before .before in
+    let W = m .before .before .before .before .args .block .now in
+    let e = sym (m .decode .ensures) ∙ ap read-decoded (d .decoded .given .1) ∙ ap (λ (q : Call). well-formed (read-call q)) (k .call2 .given .1) in
+    rw (le-leb _ _ (m .before .if1 .left)) (c .before .before .take-request .ensures ∙ ap (λ (q : Decoded). given W (perform-decoded (state-in W) q)) (sym e))
 
 pub keeper-call-spec : {M : Type 1} → statement M
 keeper-call-spec =
@@ -82,9 +88,9 @@ keeper-call-spec =
     enum-told
     refusal-code-requires
     returns-2
-    enum-told-2
-    take-change-requires
     enum-known-call
+    take-change-requires
+    enum-known-call-2
     take-request-requires
     same-length
     returns-3

@@ -1,12 +1,18 @@
--- `changing::added` meets its contract: one role more, with its set as direct privileges.
+-- `graph::changing::added` meets its contract: one role more, with its set as direct privileges.
 -- Assumes nothing.
 use mathlib.Core.Path.{refl, ap, _∙_}
+use Prim.Native.Nat.{_<_}
 use borrow.Author.Needs.{needs}
 use Rattle.sets.specs.Sets.{union}
 use Rattle.graph.specs.Tables.{at}
+use Rattle.graph.specs.Graph.{role-count}
 use Rattle.graph.proofs.Carrying.{add-lt, add-carried, may-close, closes-to, stored-union, read-directs, known-single}
 use Rattle.graph.proofs.changing.added.Statement.{statement}
 use Rattle.graph.proofs.changing.added.Tie as tie
+
+-- a is a role's number.
+named : (p : tie.Start) → p .args .a .0 < role-count
+named p = add-lt (p .args .roles) (search needs) (p .args .sets .now) (p .args .a .0) (p .args .own) (p .pre)
 
 cast-i : tie.Need-cast-i
 cast-i c = search needs
@@ -25,8 +31,7 @@ mul-union c = search needs
 
 array-read-union : tie.Need-array-read-union
 unfolding at
-array-read-union c =
-    add-lt (c .before .before .before .before .before .args .roles) (search needs) (c .before .before .before .before .before .args .sets .now) (c .before .before .before .before .before .args .a .0) (c .before .before .before .before .before .args .own) (c .before .before .before .before .before .pre)
+array-read-union c = named (c .before .before .before .before .before .before)
 
 union-requires : tie.Need-union-requires
 union-requires c κs = tt
@@ -36,8 +41,7 @@ mul-directs c = search needs
 
 array-write-directs : tie.Need-array-write-directs
 unfolding at
-array-write-directs c =
-    add-lt (c .before .before .before .before .before .before .args .roles) (search needs) (c .before .before .before .before .before .before .args .sets .now) (c .before .before .before .before .before .before .args .a .0) (c .before .before .before .before .before .before .args .own) (c .before .before .before .before .before .before .pre)
+array-write-directs c = named (c .before .before .before .before .before .before .before)
 
 single-requires : tie.Need-single-requires
 single-requires c κs = tt
@@ -48,14 +52,24 @@ union-requires-2 c κs = tt
 closed-requires : tie.Need-closed-requires
 unfolding at
 closed-requires c κs =
-    may-close (add-carried (c .before .before .before .before .before .before .before .before .before .args .roles) (search needs) (c .before .before .before .before .before .before .before .before .before .args .sets .now) (c .before .before .before .before .before .before .before .before .before .args .a .0) (c .before .before .before .before .before .before .before .before .before .args .own) (search needs) (c .before .before .before .before .before .before .before .before .before .pre)) (c .before .union2 .ensures ∙ ap (union (c .before .before .before .before .before .before .before .before .before .args .roles)) (known-single (c .before .before .before .before .before .before .before .before .before .args .a .0) (add-lt (c .before .before .before .before .before .before .before .before .before .args .roles) (search needs) (c .before .before .before .before .before .before .before .before .before .args .sets .now) (c .before .before .before .before .before .before .before .before .before .args .a .0) (c .before .before .before .before .before .before .before .before .before .args .own) (c .before .before .before .before .before .before .before .before .before .pre)) (c .before .before .single .ensures))) (c .before .before .before .before .before .before .before .draw .ensures)
+    let d = c .before .before .before .before .before .before .before in
+    let p = d .before .before .before in
+    may-close (add-carried (p .args .roles) (search needs) (p .args .sets .now) (p .args .a .0) (p .args .own) (search needs) (p .pre))
+    (c .before .union2 .ensures ∙ ap (union (p .args .roles)) (known-single (p .args .a .0) (named p) (c .before .before .single .ensures)))
+    (d .draw .ensures)
 
 returns : tie.Need-returns
 unfolding at
 returns c =
-    closes-to (add-carried (c .before .before .before .before .before .before .before .before .before .before .args .roles) (search needs) (c .before .before .before .before .before .before .before .before .before .before .args .sets .now) (c .before .before .before .before .before .before .before .before .before .before .args .a .0) (c .before .before .before .before .before .before .before .before .before .before .args .own) (search needs) (c .before .before .before .before .before .before .before .before .before .before .pre)) (c .before .before .union2 .ensures ∙ ap (union (c .before .before .before .before .before .before .before .before .before .before .args .roles)) (known-single (c .before .before .before .before .before .before .before .before .before .before .args .a .0) (add-lt (c .before .before .before .before .before .before .before .before .before .before .args .roles) (search needs) (c .before .before .before .before .before .before .before .before .before .before .args .sets .now) (c .before .before .before .before .before .before .before .before .before .before .args .a .0) (c .before .before .before .before .before .before .before .before .before .before .args .own) (c .before .before .before .before .before .before .before .before .before .before .pre)) (c .before .before .before .single .ensures)))
-    (stored-union (c .before .before .before .before .before .before .before .before .before .before .args .a .0) (read-directs (c .before .before .before .before .before .before .before .before .before .before .args .roles) (c .before .before .before .before .before .before .before .before .before .before .args .sets .now) (c .before .before .before .before .before .before .before .senior-roles .ensures) (c .before .before .before .before .before .before .before .before .draw .ensures) (c .before .before .before .before .before .direct-sets .ensures)) (c .before .before .before .before .union .ensures) refl)
-    (c .before .before .before .before .before .before .before .before .draw .ensures) (c .closed .ensures)
+    let e = c .before .before .before .before .before in
+    let d = e .before .before .before in
+    let p = d .before .before .before in
+    let directs = read-directs (p .args .roles) (p .args .sets .now) (e .before .before .senior-roles .ensures) (d .draw .ensures) (e .direct-sets .ensures) in
+    closes-to (add-carried (p .args .roles) (search needs) (p .args .sets .now) (p .args .a .0) (p .args .own) (search needs) (p .pre))
+    (c .before .before .union2 .ensures ∙ ap (union (p .args .roles)) (known-single (p .args .a .0) (named p) (c .before .before .before .single .ensures)))
+    (stored-union (p .args .a .0) directs (c .before .before .before .before .union .ensures) refl)
+    (d .draw .ensures)
+    (c .closed .ensures)
 
 pub added-spec : {M : Type 1} → statement M
 added-spec =

@@ -1,12 +1,17 @@
--- `changing::granted` meets its contract: one direct privilege more, no edge changed.
+-- `graph::changing::granted` meets its contract: one direct privilege more, no edge changed.
 -- Assumes nothing.
 use mathlib.Core.Path.{refl}
+use Prim.Native.Nat.{_<_}
 use borrow.Author.Needs.{needs}
-use Rattle.sets.specs.Sets.{union}
 use Rattle.graph.specs.Tables.{at}
+use Rattle.graph.specs.Graph.{role-count, privilege-count}
 use Rattle.graph.proofs.Carrying.{grant-lt, grant-carried, may-close, closes-to, stored-union, read-directs, known-single}
 use Rattle.graph.proofs.changing.granted.Statement.{statement}
 use Rattle.graph.proofs.changing.granted.Tie as tie
+
+-- a is a role's number, and b a privilege's.
+named : (p : tie.Start) → (p .args .a .0 < role-count) × (p .args .b .0 < privilege-count)
+named p = grant-lt (p .args .roles) (search needs) (p .args .sets .now) (p .args .a .0) (p .args .b .0) (p .pre)
 
 cast-i : tie.Need-cast-i
 cast-i c = search needs
@@ -23,39 +28,41 @@ senior-roles-requires c κs = tt
 direct-sets-requires : tie.Need-direct-sets-requires
 direct-sets-requires c κs = tt
 
-mul-union : tie.Need-mul-union
-mul-union c = search needs
+mul-insert : tie.Need-mul-insert
+mul-insert c = search needs
 
-array-read-union : tie.Need-array-read-union
+array-read-insert : tie.Need-array-read-insert
 unfolding at
-array-read-union c =
-    grant-lt (c .before .before .before .before .before .before .args .roles) (search needs) (c .before .before .before .before .before .before .args .sets .now) (c .before .before .before .before .before .before .args .a .0) (c .before .before .before .before .before .before .args .b .0) (c .before .before .before .before .before .before .pre) .0
+array-read-insert c = named (c .before .before .before .before .before .before .before) .0
 
-single-requires : tie.Need-single-requires
-single-requires c κs = tt
-
-union-requires : tie.Need-union-requires
-union-requires c κs = tt
+insert-requires : tie.Need-insert-requires
+insert-requires c κs = tt
 
 mul-directs : tie.Need-mul-directs
 mul-directs c = search needs
 
 array-write-directs : tie.Need-array-write-directs
 unfolding at
-array-write-directs c =
-    grant-lt (c .before .before .before .before .before .before .before .before .args .roles) (search needs) (c .before .before .before .before .before .before .before .before .args .sets .now) (c .before .before .before .before .before .before .before .before .args .a .0) (c .before .before .before .before .before .before .before .before .args .b .0) (c .before .before .before .before .before .before .before .before .pre) .0
+array-write-directs c = named (c .before .before .before .before .before .before .before .before) .0
 
 closed-requires : tie.Need-closed-requires
 unfolding at
 closed-requires c κs =
-    may-close (grant-carried (c .before .before .before .before .before .before .before .before .before .args .roles) (search needs) (c .before .before .before .before .before .before .before .before .before .args .sets .now) (c .before .before .before .before .before .before .before .before .before .args .a .0) (c .before .before .before .before .before .before .before .before .before .args .b .0) (c .before .before .before .before .before .before .before .before .before .pre)) refl (c .before .before .before .before .before .before .draw .ensures)
+    let d = c .before .before .before .before .before in
+    let p = d .before .before .before .before in
+    may-close (grant-carried (p .args .roles) (search needs) (p .args .sets .now) (p .args .a .0) (p .args .b .0) (p .pre)) refl (d .draw .ensures)
 
 returns : tie.Need-returns
 unfolding at
 returns c =
-    closes-to (grant-carried (c .before .before .before .before .before .before .before .before .before .before .args .roles) (search needs) (c .before .before .before .before .before .before .before .before .before .before .args .sets .now) (c .before .before .before .before .before .before .before .before .before .before .args .a .0) (c .before .before .before .before .before .before .before .before .before .before .args .b .0) (c .before .before .before .before .before .before .before .before .before .before .pre)) refl
-    (stored-union (c .before .before .before .before .before .before .before .before .before .before .args .a .0) (read-directs (c .before .before .before .before .before .before .before .before .before .before .args .roles) (c .before .before .before .before .before .before .before .before .before .before .args .sets .now) (c .before .before .before .before .before .before .senior-roles .ensures) (c .before .before .before .before .before .before .before .draw .ensures) (c .before .before .before .before .direct-sets .ensures)) (c .before .before .union .ensures) (known-single (c .before .before .before .before .before .before .before .before .before .before .args .b .0) (grant-lt (c .before .before .before .before .before .before .before .before .before .before .args .roles) (search needs) (c .before .before .before .before .before .before .before .before .before .before .args .sets .now) (c .before .before .before .before .before .before .before .before .before .before .args .a .0) (c .before .before .before .before .before .before .before .before .before .before .args .b .0) (c .before .before .before .before .before .before .before .before .before .before .pre) .1) (c .before .before .before .single .ensures)))
-    (c .before .before .before .before .before .before .before .draw .ensures) (c .closed .ensures)
+    let e = c .before .before .before in
+    let d = e .before .before .before in
+    let p = d .before .before .before .before in
+    let directs = read-directs (p .args .roles) (p .args .sets .now) (e .before .before .senior-roles .ensures) (d .draw .ensures) (e .direct-sets .ensures) in
+    closes-to (grant-carried (p .args .roles) (search needs) (p .args .sets .now) (p .args .a .0) (p .args .b .0) (p .pre)) refl
+    (stored-union (p .args .a .0) directs (c .before .before .insert .ensures) (known-single (p .args .b .0) (named p .1) refl))
+    (d .draw .ensures)
+    (c .closed .ensures)
 
 pub granted-spec : {M : Type 1} → statement M
 granted-spec =
@@ -66,10 +73,9 @@ granted-spec =
     draw-requires
     senior-roles-requires
     direct-sets-requires
-    mul-union
-    array-read-union
-    single-requires
-    union-requires
+    mul-insert
+    array-read-insert
+    insert-requires
     mul-directs
     array-write-directs
     closed-requires

@@ -1,12 +1,17 @@
--- `changing::linked` meets its contract: one edge more.
+-- `graph::changing::linked` meets its contract: one edge more.
 -- Assumes nothing.
 use mathlib.Core.Path.{refl}
+use Prim.Native.Nat.{_<_}
 use borrow.Author.Needs.{needs}
-use Rattle.sets.specs.Sets.{union}
 use Rattle.graph.specs.Tables.{at}
+use Rattle.graph.specs.Graph.{role-count}
 use Rattle.graph.proofs.Carrying.{link-lt, link-carried, may-close, closes-to, stored-union, read-directs, known-single}
 use Rattle.graph.proofs.changing.linked.Statement.{statement}
 use Rattle.graph.proofs.changing.linked.Tie as tie
+
+-- a and b are roles' numbers.
+named : (p : tie.Start) → (p .args .a .0 < role-count) × (p .args .b .0 < role-count)
+named p = link-lt (p .args .roles) (search needs) (p .args .sets .now) (p .args .a .0) (p .args .b .0) (p .pre)
 
 cast-i : tie.Need-cast-i
 cast-i c = search needs
@@ -28,8 +33,7 @@ mul-union c = search needs
 
 array-read-union : tie.Need-array-read-union
 unfolding at
-array-read-union c =
-    link-lt (c .before .before .before .before .before .before .args .roles) (search needs) (c .before .before .before .before .before .before .args .sets .now) (c .before .before .before .before .before .before .args .a .0) (c .before .before .before .before .before .before .args .b .0) (c .before .before .before .before .before .before .pre) .1
+array-read-union c = named (c .before .before .before .before .before .before .before) .1
 
 single-requires : tie.Need-single-requires
 single-requires c κs = tt
@@ -42,19 +46,27 @@ mul-joins c = search needs
 
 array-write-joins : tie.Need-array-write-joins
 unfolding at
-array-write-joins c =
-    link-lt (c .before .before .before .before .before .before .before .before .args .roles) (search needs) (c .before .before .before .before .before .before .before .before .args .sets .now) (c .before .before .before .before .before .before .before .before .args .a .0) (c .before .before .before .before .before .before .before .before .args .b .0) (c .before .before .before .before .before .before .before .before .pre) .1
+array-write-joins c = named (c .before .before .before .before .before .before .before .before .before) .1
 
 closed-requires : tie.Need-closed-requires
 unfolding at
 closed-requires c κs =
-    may-close (link-carried (c .before .before .before .before .before .before .before .before .before .args .roles) (search needs) (c .before .before .before .before .before .before .before .before .before .args .sets .now) (c .before .before .before .before .before .before .before .before .before .args .a .0) (c .before .before .before .before .before .before .before .before .before .args .b .0) (c .before .before .before .before .before .before .before .before .before .pre)) refl (stored-union (c .before .before .before .before .before .before .before .before .before .args .b .0) (c .before .before .before .before .before .before .draw .ensures) (c .before .union .ensures) (known-single (c .before .before .before .before .before .before .before .before .before .args .a .0) (link-lt (c .before .before .before .before .before .before .before .before .before .args .roles) (search needs) (c .before .before .before .before .before .before .before .before .before .args .sets .now) (c .before .before .before .before .before .before .before .before .before .args .a .0) (c .before .before .before .before .before .before .before .before .before .args .b .0) (c .before .before .before .before .before .before .before .before .before .pre) .0) (c .before .before .single .ensures)))
+    let d = c .before .before .before .before .before .before in
+    let p = d .before .before .before .before in
+    may-close (link-carried (p .args .roles) (search needs) (p .args .sets .now) (p .args .a .0) (p .args .b .0) (p .pre)) refl
+    (stored-union (p .args .b .0) (d .draw .ensures) (c .before .union .ensures) (known-single (p .args .a .0) (named p .0) (c .before .before .single .ensures)))
 
 returns : tie.Need-returns
 unfolding at
 returns c =
-    closes-to (link-carried (c .before .before .before .before .before .before .before .before .before .before .args .roles) (search needs) (c .before .before .before .before .before .before .before .before .before .before .args .sets .now) (c .before .before .before .before .before .before .before .before .before .before .args .a .0) (c .before .before .before .before .before .before .before .before .before .before .args .b .0) (c .before .before .before .before .before .before .before .before .before .before .pre)) refl (read-directs (c .before .before .before .before .before .before .before .before .before .before .args .roles) (c .before .before .before .before .before .before .before .before .before .before .args .sets .now) (c .before .before .before .before .before .before .senior-roles .ensures) (c .before .before .before .before .before .before .before .draw .ensures) (c .before .before .before .before .direct-sets .ensures))
-    (stored-union (c .before .before .before .before .before .before .before .before .before .before .args .b .0) (c .before .before .before .before .before .before .before .draw .ensures) (c .before .before .union .ensures) (known-single (c .before .before .before .before .before .before .before .before .before .before .args .a .0) (link-lt (c .before .before .before .before .before .before .before .before .before .before .args .roles) (search needs) (c .before .before .before .before .before .before .before .before .before .before .args .sets .now) (c .before .before .before .before .before .before .before .before .before .before .args .a .0) (c .before .before .before .before .before .before .before .before .before .before .args .b .0) (c .before .before .before .before .before .before .before .before .before .before .pre) .0) (c .before .before .before .single .ensures))) (c .closed .ensures)
+    let e = c .before .before .before .before in
+    let d = e .before .before .before in
+    let p = d .before .before .before .before in
+    let directs = read-directs (p .args .roles) (p .args .sets .now) (e .before .before .senior-roles .ensures) (d .draw .ensures) (e .direct-sets .ensures) in
+    closes-to (link-carried (p .args .roles) (search needs) (p .args .sets .now) (p .args .a .0) (p .args .b .0) (p .pre)) refl
+    directs
+    (stored-union (p .args .b .0) (d .draw .ensures) (c .before .before .union .ensures) (known-single (p .args .a .0) (named p .0) (c .before .before .before .single .ensures)))
+    (c .closed .ensures)
 
 pub linked-spec : {M : Type 1} → statement M
 linked-spec =

@@ -1,12 +1,18 @@
--- `changing::placed` meets its contract: one role more, edges from its juniors and to its seniors.
+-- `graph::changing::placed` meets its contract: one role more, edges from its juniors and to its seniors.
 -- Assumes nothing.
 use mathlib.Core.Path.{refl, ap, _∙_}
+use Prim.Native.Nat.{_<_}
 use borrow.Author.Needs.{needs}
 use Rattle.sets.specs.Sets.{union}
 use Rattle.graph.specs.Tables.{at}
+use Rattle.graph.specs.Graph.{role-count}
 use Rattle.graph.proofs.Carrying.{place-lt, place-carried, may-close, closes-to, stored-union, joined-all, read-directs, known-single}
 use Rattle.graph.proofs.changing.placed.Statement.{statement}
 use Rattle.graph.proofs.changing.placed.Tie as tie
+
+-- a is a role's number.
+named : (p : tie.Start) → p .args .a .0 < role-count
+named p = place-lt (p .args .roles) (search needs) (p .args .sets .now) (p .args .a .0) (p .args .own) (p .args .juniors) (p .args .seniors) (p .pre)
 
 cast-i : tie.Need-cast-i
 cast-i c = search needs
@@ -25,8 +31,7 @@ mul-union c = search needs
 
 array-read-union : tie.Need-array-read-union
 unfolding at
-array-read-union c =
-    place-lt (c .before .before .before .before .before .args .roles) (search needs) (c .before .before .before .before .before .args .sets .now) (c .before .before .before .before .before .args .a .0) (c .before .before .before .before .before .args .own) (c .before .before .before .before .before .args .juniors) (c .before .before .before .before .before .args .seniors) (c .before .before .before .before .before .pre)
+array-read-union c = named (c .before .before .before .before .before .before)
 
 union-requires : tie.Need-union-requires
 union-requires c κs = tt
@@ -36,8 +41,7 @@ mul-directs c = search needs
 
 array-write-directs : tie.Need-array-write-directs
 unfolding at
-array-write-directs c =
-    place-lt (c .before .before .before .before .before .before .args .roles) (search needs) (c .before .before .before .before .before .before .args .sets .now) (c .before .before .before .before .before .before .args .a .0) (c .before .before .before .before .before .before .args .own) (c .before .before .before .before .before .before .args .juniors) (c .before .before .before .before .before .before .args .seniors) (c .before .before .before .before .before .before .pre)
+array-write-directs c = named (c .before .before .before .before .before .before .before)
 
 single-requires : tie.Need-single-requires
 single-requires c κs = tt
@@ -50,8 +54,7 @@ mul-union-2 c = search needs
 
 array-read-union-2 : tie.Need-array-read-union-2
 unfolding at
-array-read-union-2 c =
-    place-lt (c .before .before .before .before .before .before .before .before .before .args .roles) (search needs) (c .before .before .before .before .before .before .before .before .before .args .sets .now) (c .before .before .before .before .before .before .before .before .before .args .a .0) (c .before .before .before .before .before .before .before .before .before .args .own) (c .before .before .before .before .before .before .before .before .before .args .juniors) (c .before .before .before .before .before .before .before .before .before .args .seniors) (c .before .before .before .before .before .before .before .before .before .pre)
+array-read-union-2 c = named (c .before .before .before .before .before .before .before .before .before .before)
 
 union-requires-2 : tie.Need-union-requires-2
 union-requires-2 c κs = tt
@@ -61,8 +64,7 @@ mul-joins c = search needs
 
 array-write-joins : tie.Need-array-write-joins
 unfolding at
-array-write-joins c =
-    place-lt (c .before .before .before .before .before .before .before .before .before .before .args .roles) (search needs) (c .before .before .before .before .before .before .before .before .before .before .args .sets .now) (c .before .before .before .before .before .before .before .before .before .before .args .a .0) (c .before .before .before .before .before .before .before .before .before .before .args .own) (c .before .before .before .before .before .before .before .before .before .before .args .juniors) (c .before .before .before .before .before .before .before .before .before .before .args .seniors) (c .before .before .before .before .before .before .before .before .before .before .pre)
+array-write-joins c = named (c .before .before .before .before .before .before .before .before .before .before .before)
 
 single-requires-2 : tie.Need-single-requires-2
 single-requires-2 c κs = tt
@@ -73,15 +75,28 @@ union-requires-3 c κs = tt
 closed-requires : tie.Need-closed-requires
 unfolding at
 closed-requires c κs =
-    may-close (place-carried (c .before .before .before .before .before .before .before .before .before .before .before .before .before .args .roles) (search needs) (c .before .before .before .before .before .before .before .before .before .before .before .before .before .args .sets .now) (c .before .before .before .before .before .before .before .before .before .before .before .before .before .args .a .0) (c .before .before .before .before .before .before .before .before .before .before .before .before .before .args .own) (c .before .before .before .before .before .before .before .before .before .before .before .before .before .args .juniors) (c .before .before .before .before .before .before .before .before .before .before .before .before .before .args .seniors) (search needs) (search needs) (search needs) (c .before .before .before .before .before .before .before .before .before .before .before .before .before .pre)) (c .before .union3 .ensures ∙ ap (union (c .before .before .before .before .before .before .before .before .before .before .before .before .before .args .roles)) (known-single (c .before .before .before .before .before .before .before .before .before .before .before .before .before .args .a .0) (place-lt (c .before .before .before .before .before .before .before .before .before .before .before .before .before .args .roles) (search needs) (c .before .before .before .before .before .before .before .before .before .before .before .before .before .args .sets .now) (c .before .before .before .before .before .before .before .before .before .before .before .before .before .args .a .0) (c .before .before .before .before .before .before .before .before .before .before .before .before .before .args .own) (c .before .before .before .before .before .before .before .before .before .before .before .before .before .args .juniors) (c .before .before .before .before .before .before .before .before .before .before .before .before .before .args .seniors) (c .before .before .before .before .before .before .before .before .before .before .before .before .before .pre)) (c .before .before .single2 .ensures)))
-    (stored-union (c .before .before .before .before .before .before .before .before .before .before .before .before .before .args .a .0) (joined-all (c .before .before .before .before .before .before .before .before .before .before .before .draw .ensures) refl (known-single (c .before .before .before .before .before .before .before .before .before .before .before .before .before .args .a .0) (place-lt (c .before .before .before .before .before .before .before .before .before .before .before .before .before .args .roles) (search needs) (c .before .before .before .before .before .before .before .before .before .before .before .before .before .args .sets .now) (c .before .before .before .before .before .before .before .before .before .before .before .before .before .args .a .0) (c .before .before .before .before .before .before .before .before .before .before .before .before .before .args .own) (c .before .before .before .before .before .before .before .before .before .before .before .before .before .args .juniors) (c .before .before .before .before .before .before .before .before .before .before .before .before .before .args .seniors) (c .before .before .before .before .before .before .before .before .before .before .before .before .before .pre)) (c .before .before .before .before .before .single .ensures)) (c .before .before .before .before .exchange-all .ensures)) (c .before .before .before .union2 .ensures) refl)
+    let x = c .before .before .before .before in
+    let d = x .before .before .before .before .before .before .before in
+    let p = d .before .before .before in
+    let a = p .args .a .0 in
+    may-close (place-carried (p .args .roles) (search needs) (p .args .sets .now) a (p .args .own) (p .args .juniors) (p .args .seniors) (search needs) (search needs) (search needs) (p .pre))
+    (c .before .union3 .ensures ∙ ap (union (p .args .roles)) (known-single a (named p) (c .before .before .single2 .ensures)))
+    (stored-union a (joined-all (d .draw .ensures) refl (known-single a (named p) (x .before .single .ensures)) (x .exchange-all .ensures)) (c .before .before .before .union2 .ensures) refl)
 
 returns : tie.Need-returns
 unfolding at
 returns c =
-    closes-to (place-carried (c .before .before .before .before .before .before .before .before .before .before .before .before .before .before .args .roles) (search needs) (c .before .before .before .before .before .before .before .before .before .before .before .before .before .before .args .sets .now) (c .before .before .before .before .before .before .before .before .before .before .before .before .before .before .args .a .0) (c .before .before .before .before .before .before .before .before .before .before .before .before .before .before .args .own) (c .before .before .before .before .before .before .before .before .before .before .before .before .before .before .args .juniors) (c .before .before .before .before .before .before .before .before .before .before .before .before .before .before .args .seniors) (search needs) (search needs) (search needs) (c .before .before .before .before .before .before .before .before .before .before .before .before .before .before .pre)) (c .before .before .union3 .ensures ∙ ap (union (c .before .before .before .before .before .before .before .before .before .before .before .before .before .before .args .roles)) (known-single (c .before .before .before .before .before .before .before .before .before .before .before .before .before .before .args .a .0) (place-lt (c .before .before .before .before .before .before .before .before .before .before .before .before .before .before .args .roles) (search needs) (c .before .before .before .before .before .before .before .before .before .before .before .before .before .before .args .sets .now) (c .before .before .before .before .before .before .before .before .before .before .before .before .before .before .args .a .0) (c .before .before .before .before .before .before .before .before .before .before .before .before .before .before .args .own) (c .before .before .before .before .before .before .before .before .before .before .before .before .before .before .args .juniors) (c .before .before .before .before .before .before .before .before .before .before .before .before .before .before .args .seniors) (c .before .before .before .before .before .before .before .before .before .before .before .before .before .before .pre)) (c .before .before .before .single2 .ensures)))
-    (stored-union (c .before .before .before .before .before .before .before .before .before .before .before .before .before .before .args .a .0) (read-directs (c .before .before .before .before .before .before .before .before .before .before .before .before .before .before .args .roles) (c .before .before .before .before .before .before .before .before .before .before .before .before .before .before .args .sets .now) (c .before .before .before .before .before .before .before .before .before .before .before .senior-roles .ensures) (c .before .before .before .before .before .before .before .before .before .before .before .before .draw .ensures) (c .before .before .before .before .before .before .before .before .before .direct-sets .ensures)) (c .before .before .before .before .before .before .before .before .union .ensures) refl)
-    (stored-union (c .before .before .before .before .before .before .before .before .before .before .before .before .before .before .args .a .0) (joined-all (c .before .before .before .before .before .before .before .before .before .before .before .before .draw .ensures) refl (known-single (c .before .before .before .before .before .before .before .before .before .before .before .before .before .before .args .a .0) (place-lt (c .before .before .before .before .before .before .before .before .before .before .before .before .before .before .args .roles) (search needs) (c .before .before .before .before .before .before .before .before .before .before .before .before .before .before .args .sets .now) (c .before .before .before .before .before .before .before .before .before .before .before .before .before .before .args .a .0) (c .before .before .before .before .before .before .before .before .before .before .before .before .before .before .args .own) (c .before .before .before .before .before .before .before .before .before .before .before .before .before .before .args .juniors) (c .before .before .before .before .before .before .before .before .before .before .before .before .before .before .args .seniors) (c .before .before .before .before .before .before .before .before .before .before .before .before .before .before .pre)) (c .before .before .before .before .before .before .single .ensures)) (c .before .before .before .before .before .exchange-all .ensures)) (c .before .before .before .before .union2 .ensures) refl) (c .closed .ensures)
+    let x = c .before .before .before .before .before in
+    let e = x .before .before .before .before in
+    let d = e .before .before .before in
+    let p = d .before .before .before in
+    let a = p .args .a .0 in
+    let directs = read-directs (p .args .roles) (p .args .sets .now) (e .before .before .senior-roles .ensures) (d .draw .ensures) (e .direct-sets .ensures) in
+    closes-to (place-carried (p .args .roles) (search needs) (p .args .sets .now) a (p .args .own) (p .args .juniors) (p .args .seniors) (search needs) (search needs) (search needs) (p .pre))
+    (c .before .before .union3 .ensures ∙ ap (union (p .args .roles)) (known-single a (named p) (c .before .before .before .single2 .ensures)))
+    (stored-union a directs (x .before .before .before .union .ensures) refl)
+    (stored-union a (joined-all (d .draw .ensures) refl (known-single a (named p) (x .before .single .ensures)) (x .exchange-all .ensures)) (c .before .before .before .before .union2 .ensures) refl)
+    (c .closed .ensures)
 
 pub placed-spec : {M : Type 1} → statement M
 placed-spec =

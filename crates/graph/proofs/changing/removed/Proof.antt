@@ -1,16 +1,21 @@
--- `changing::removed` meets its contract: one role less; its juniors go to its seniors, and with b 1 its direct privileges too.
+-- `graph::changing::removed` meets its contract: one role less; its juniors go to its seniors, and with b 1 its direct privileges too.
 -- Assumes nothing.
 use mathlib.Core.Path.{ap, _∙_}
 use mathlib.Core.List.{List}
-use Prim.Native.Nat.{ℕ}
+use Prim.Native.Nat.{ℕ, _<_}
 use lib.Dec.{eqb}
 use lib.ListN.{set}
 use borrow.Author.Needs.{needs}
 use Rattle.sets.specs.Sets.{difference, when}
 use Rattle.graph.specs.Tables.{at}
+use Rattle.graph.specs.Graph.{role-count}
 use Rattle.graph.proofs.Carrying.{remove-lt, remove-carried, may-close, closes-to, exchanged-all, joined-all, found-seniors, read-directs, known-single}
 use Rattle.graph.proofs.changing.removed.Statement.{statement}
 use Rattle.graph.proofs.changing.removed.Tie as tie
+
+-- a is a role's number.
+named : (p : tie.Start) → p .args .a .0 < role-count
+named p = remove-lt (p .args .roles) (search needs) (p .args .sets .now) (p .args .a .0) (p .args .b) (p .pre)
 
 cast-i : tie.Need-cast-i
 cast-i c = search needs
@@ -32,9 +37,7 @@ mul-when c = search needs
 
 array-read-when : tie.Need-array-read-when
 unfolding at
-array-read-when c =
-    let p = c .before .before .before .before .before .before .before in
-    remove-lt (p .args .roles) (search needs) (p .args .sets .now) (p .args .a .0) (p .args .b) (p .pre)
+array-read-when c = named (c .before .before .before .before .before .before .before .before)
 
 when-requires : tie.Need-when-requires
 when-requires c κs = tt
@@ -47,18 +50,14 @@ mul-directs c = search needs
 
 array-write-directs : tie.Need-array-write-directs
 unfolding at
-array-write-directs c =
-    let p = c .before .before .before .before .before .before .before .before .before .before in
-    remove-lt (p .args .roles) (search needs) (p .args .sets .now) (p .args .a .0) (p .args .b) (p .pre)
+array-write-directs c = named (c .before .before .before .before .before .before .before .before .before .before .before)
 
 mul-juniors : tie.Need-mul-juniors
 mul-juniors c = search needs
 
 array-read-juniors : tie.Need-array-read-juniors
 unfolding at
-array-read-juniors c =
-    let p = c .before .before .before .before .before .before .before .before .before .before in
-    remove-lt (p .args .roles) (search needs) (p .args .sets .now) (p .args .a .0) (p .args .b) (p .pre)
+array-read-juniors c = named (c .before .before .before .before .before .before .before .before .before .before .before)
 
 single-requires : tie.Need-single-requires
 single-requires c κs = tt
@@ -71,9 +70,7 @@ mul-joins c = search needs
 
 array-write-joins : tie.Need-array-write-joins
 unfolding at
-array-write-joins c =
-    let p = c .before .before .before .before .before .before .before .before .before .before .before .before .before in
-    remove-lt (p .args .roles) (search needs) (p .args .sets .now) (p .args .a .0) (p .args .b) (p .pre)
+array-write-joins c = named (c .before .before .before .before .before .before .before .before .before .before .before .before .before .before)
 
 difference-requires : tie.Need-difference-requires
 difference-requires c κs = tt
@@ -83,13 +80,11 @@ unfolding at
 closed-requires c κs =
     let x = c .before .before in
     let s = x .before .before in
-    let w = s .before .before .before in
-    let n = w .before in
+    let n = s .before .before .before .before in
     let d = n .before .before .before .before in
-    let p = d .before .before .before in
+    let p = d .before .before .before .before in
     let a = p .args .a .0 in
-    let lt = remove-lt (p .args .roles) (search needs) (p .args .sets .now) a (p .args .b) (p .pre) in
-    let own = known-single a lt (s .single .ensures) in
+    let own = known-single a (named p) (s .single .ensures) in
     let seniors = found-seniors a (d .before .senior-roles .ensures) (d .draw .ensures) (n .seniors-in .ensures) in
     may-close (remove-carried (p .args .roles) (search needs) (p .args .sets .now) a (p .args .b) (p .pre))
     (c .before .difference .ensures ∙ ap (difference (p .args .roles)) own)
@@ -100,18 +95,16 @@ unfolding at
 returns c =
     let x = c .before .before .before in
     let s = x .before .before in
-    let w = s .before .before .before in
-    let n = w .before in
+    let n = s .before .before .before .before in
     let d = n .before .before .before .before in
-    let p = d .before .before .before in
+    let p = d .before .before .before .before in
     let a = p .args .a .0 in
-    let lt = remove-lt (p .args .roles) (search needs) (p .args .sets .now) a (p .args .b) (p .pre) in
-    let own = known-single a lt (s .single .ensures) in
+    let own = known-single a (named p) (s .single .ensures) in
     let seniors = found-seniors a (d .before .senior-roles .ensures) (d .draw .ensures) (n .seniors-in .ensures) in
     let directs = read-directs (p .args .roles) (p .args .sets .now) (d .before .senior-roles .ensures) (d .draw .ensures) (n .before .before .direct-sets .ensures) in
     closes-to (remove-carried (p .args .roles) (search needs) (p .args .sets .now) a (p .args .b) (p .pre))
     (c .before .before .difference .ensures ∙ ap (difference (p .args .roles)) own)
-    (ap (λ (t : List ℕ). set t a 0) (joined-all directs seniors (w .when .ensures ∙ ap (λ (t : List ℕ). when (eqb (p .args .b) 1) (at t a)) directs) (s .before .exchange-all .ensures)))
+    (ap (λ (t : List ℕ). set t a 0) (joined-all directs seniors (s .before .before .before .when .ensures ∙ ap (λ (t : List ℕ). when (eqb (p .args .b) 1) (at t a)) directs) (s .before .exchange-all .ensures)))
     (ap (λ (t : List ℕ). set t a 0) (exchanged-all (d .draw .ensures) seniors own (ap (λ (t : List ℕ). at t a) (d .draw .ensures)) (x .exchange-all2 .ensures)))
     (c .closed .ensures)
 

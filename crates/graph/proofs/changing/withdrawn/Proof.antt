@@ -1,12 +1,17 @@
--- `changing::withdrawn` meets its contract: one direct privilege less, no edge changed.
+-- `graph::changing::withdrawn` meets its contract: one direct privilege less, no edge changed.
 -- Assumes nothing.
 use mathlib.Core.Path.{refl}
+use Prim.Native.Nat.{_<_}
 use borrow.Author.Needs.{needs}
-use Rattle.sets.specs.Sets.{difference}
 use Rattle.graph.specs.Tables.{at}
+use Rattle.graph.specs.Graph.{role-count, privilege-count}
 use Rattle.graph.proofs.Carrying.{withdraw-lt, withdraw-carried, may-close, closes-to, stored-difference, read-directs, known-single}
 use Rattle.graph.proofs.changing.withdrawn.Statement.{statement}
 use Rattle.graph.proofs.changing.withdrawn.Tie as tie
+
+-- a is a role's number, and b a privilege's.
+named : (p : tie.Start) → (p .args .a .0 < role-count) × (p .args .b .0 < privilege-count)
+named p = withdraw-lt (p .args .roles) (search needs) (p .args .sets .now) (p .args .a .0) (p .args .b .0) (p .pre)
 
 cast-i : tie.Need-cast-i
 cast-i c = search needs
@@ -23,39 +28,41 @@ senior-roles-requires c κs = tt
 direct-sets-requires : tie.Need-direct-sets-requires
 direct-sets-requires c κs = tt
 
-mul-difference : tie.Need-mul-difference
-mul-difference c = search needs
+mul-remove : tie.Need-mul-remove
+mul-remove c = search needs
 
-array-read-difference : tie.Need-array-read-difference
+array-read-remove : tie.Need-array-read-remove
 unfolding at
-array-read-difference c =
-    withdraw-lt (c .before .before .before .before .before .before .args .roles) (search needs) (c .before .before .before .before .before .before .args .sets .now) (c .before .before .before .before .before .before .args .a .0) (c .before .before .before .before .before .before .args .b .0) (c .before .before .before .before .before .before .pre) .0
+array-read-remove c = named (c .before .before .before .before .before .before .before) .0
 
-single-requires : tie.Need-single-requires
-single-requires c κs = tt
-
-difference-requires : tie.Need-difference-requires
-difference-requires c κs = tt
+remove-requires : tie.Need-remove-requires
+remove-requires c κs = tt
 
 mul-directs : tie.Need-mul-directs
 mul-directs c = search needs
 
 array-write-directs : tie.Need-array-write-directs
 unfolding at
-array-write-directs c =
-    withdraw-lt (c .before .before .before .before .before .before .before .before .args .roles) (search needs) (c .before .before .before .before .before .before .before .before .args .sets .now) (c .before .before .before .before .before .before .before .before .args .a .0) (c .before .before .before .before .before .before .before .before .args .b .0) (c .before .before .before .before .before .before .before .before .pre) .0
+array-write-directs c = named (c .before .before .before .before .before .before .before .before) .0
 
 closed-requires : tie.Need-closed-requires
 unfolding at
 closed-requires c κs =
-    may-close (withdraw-carried (c .before .before .before .before .before .before .before .before .before .args .roles) (search needs) (c .before .before .before .before .before .before .before .before .before .args .sets .now) (c .before .before .before .before .before .before .before .before .before .args .a .0) (c .before .before .before .before .before .before .before .before .before .args .b .0) (c .before .before .before .before .before .before .before .before .before .pre)) refl (c .before .before .before .before .before .before .draw .ensures)
+    let d = c .before .before .before .before .before in
+    let p = d .before .before .before .before in
+    may-close (withdraw-carried (p .args .roles) (search needs) (p .args .sets .now) (p .args .a .0) (p .args .b .0) (p .pre)) refl (d .draw .ensures)
 
 returns : tie.Need-returns
 unfolding at
 returns c =
-    closes-to (withdraw-carried (c .before .before .before .before .before .before .before .before .before .before .args .roles) (search needs) (c .before .before .before .before .before .before .before .before .before .before .args .sets .now) (c .before .before .before .before .before .before .before .before .before .before .args .a .0) (c .before .before .before .before .before .before .before .before .before .before .args .b .0) (c .before .before .before .before .before .before .before .before .before .before .pre)) refl
-    (stored-difference (c .before .before .before .before .before .before .before .before .before .before .args .a .0) (read-directs (c .before .before .before .before .before .before .before .before .before .before .args .roles) (c .before .before .before .before .before .before .before .before .before .before .args .sets .now) (c .before .before .before .before .before .before .senior-roles .ensures) (c .before .before .before .before .before .before .before .draw .ensures) (c .before .before .before .before .direct-sets .ensures)) (c .before .before .difference .ensures) (known-single (c .before .before .before .before .before .before .before .before .before .before .args .b .0) (withdraw-lt (c .before .before .before .before .before .before .before .before .before .before .args .roles) (search needs) (c .before .before .before .before .before .before .before .before .before .before .args .sets .now) (c .before .before .before .before .before .before .before .before .before .before .args .a .0) (c .before .before .before .before .before .before .before .before .before .before .args .b .0) (c .before .before .before .before .before .before .before .before .before .before .pre) .1) (c .before .before .before .single .ensures)))
-    (c .before .before .before .before .before .before .before .draw .ensures) (c .closed .ensures)
+    let e = c .before .before .before in
+    let d = e .before .before .before in
+    let p = d .before .before .before .before in
+    let directs = read-directs (p .args .roles) (p .args .sets .now) (e .before .before .senior-roles .ensures) (d .draw .ensures) (e .direct-sets .ensures) in
+    closes-to (withdraw-carried (p .args .roles) (search needs) (p .args .sets .now) (p .args .a .0) (p .args .b .0) (p .pre)) refl
+    (stored-difference (p .args .a .0) directs (c .before .before .remove .ensures) (known-single (p .args .b .0) (named p .1) refl))
+    (d .draw .ensures)
+    (c .closed .ensures)
 
 pub withdrawn-spec : {M : Type 1} → statement M
 withdrawn-spec =
@@ -66,10 +73,9 @@ withdrawn-spec =
     draw-requires
     senior-roles-requires
     direct-sets-requires
-    mul-difference
-    array-read-difference
-    single-requires
-    difference-requires
+    mul-remove
+    array-read-remove
+    remove-requires
     mul-directs
     array-write-directs
     closed-requires

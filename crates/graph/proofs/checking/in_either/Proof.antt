@@ -1,7 +1,6 @@
 -- `checking::in_either` meets its contract: the first set has the number, or the second decides.
 -- Assumes nothing.
 use mathlib.Core.Path.{sym, _∙_}
-use borrow.Author.Needs.{needs}
 use Rattle.graph.proofs.checking.in_either.Statement.{statement}
 use Rattle.graph.proofs.checking.in_either.Tie as tie
 

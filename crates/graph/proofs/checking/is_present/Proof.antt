@@ -1,6 +1,5 @@
 -- `checking::is_present` meets its contract: an end role, or a member of the roles.
 -- Assumes nothing.
-use borrow.Author.Needs.{needs}
 use borrow.Author.Tests.{lt-ltb, le-ltb}
 use Rattle.graph.specs.Graph.{is-end, present}
 use Rattle.graph.proofs.checking.is_present.Statement.{statement}

@@ -1,6 +1,8 @@
 -- `checking::judge` meets its contract: each kind has its judge.
 -- Assumes nothing.
 use borrow.Author.Needs.{needs}
+use Rattle.graph.specs.Graph.{present}
+use Rattle.graph.specs.Refusing.{early, input-checks, state-checks}
 use Rattle.graph.specs.Reading.{read-change}
 use Rattle.graph.proofs.checking.judge.Statement.{statement}
 use Rattle.graph.proofs.checking.judge.Tie as tie
@@ -20,8 +22,8 @@ judge-add-requires c κs = tt
 enum-known-change-3 : tie.Need-enum-known-change-3
 enum-known-change-3 c = search needs
 
-judge-remove-requires : tie.Need-judge-remove-requires
-judge-remove-requires c κs = tt
+judge-role-requires : tie.Need-judge-role-requires
+judge-role-requires c κs = tt
 
 enum-known-change-4 : tie.Need-enum-known-change-4
 enum-known-change-4 c = search needs
@@ -56,8 +58,8 @@ unfolding read-change
 returns-2 c = rw (c .before .before .change2 .given .1) (c .judge-add .ensures)
 
 returns-3 : tie.Need-returns-3
-unfolding read-change
-returns-3 c = rw (c .before .before .change3 .given .1) (c .judge-remove .ensures)
+unfolding read-change early input-checks state-checks present
+returns-3 c = rw (c .before .before .change3 .given .1) (c .judge-role .ensures)
 
 returns-4 : tie.Need-returns-4
 unfolding read-change
@@ -84,7 +86,7 @@ judge-spec =
     enum-known-change-2
     judge-add-requires
     enum-known-change-3
-    judge-remove-requires
+    judge-role-requires
     enum-known-change-4
     judge-grant-requires
     enum-known-change-5

@@ -1,6 +1,5 @@
 -- `checking::judge_add` meets its contract: each return is the check that it stands for.
 -- Assumes nothing.
-use borrow.Author.Needs.{needs}
 use borrow.Author.Tests.{lt-ltb, le-ltb, le-leb, lt-leb}
 use Rattle.graph.specs.Graph.{is-end, effective}
 use Rattle.graph.specs.Refusing.{early, verdict, input-checks, state-checks}
@@ -40,20 +39,22 @@ refuse-requires-3 c κs = tt
 returns-3 : tie.Need-returns-3
 unfolding early verdict input-checks state-checks is-end effective
 returns-3 c =
+    let sets = c .before .before .before .before .before .before .args .sets .now in
     simp (
       lt-leb 64 _ (c .before .before .before .before .if1 .left),
       le-ltb _ 2 (c .before .before .before .if2 .left),
-      present-by _ (c .before .before .before .before .before .args .sets .now) _ (c .before .before .is-present .ensures) (c .before .if3 .taken),
+      present-by _ sets _ (c .before .before .is-present .ensures) (c .before .if3 .taken),
     )
     (c .refuse3 .ensures)
 
 returns-4 : tie.Need-returns-4
 unfolding early verdict input-checks state-checks is-end effective read-verdict
 returns-4 c =
+    let sets = c .before .before .before .before .before .args .sets .now in
     simp (
       lt-leb 64 _ (c .before .before .before .if1 .left),
       le-ltb _ 2 (c .before .before .if2 .left),
-      present-by _ (c .before .before .before .before .args .sets .now) _ (c .before .is-present .ensures) (c .if3 .left),
+      present-by _ sets _ (c .before .is-present .ensures) (c .if3 .left),
     )
 
 pub judge-add-spec : {M : Type 1} → statement M

@@ -1,7 +1,6 @@
 -- `checking::judge_place` meets its contract: each return is the check that it stands for.
 -- Assumes nothing.
 use mathlib.Core.Path.{sym, ap, _∙_}
-use borrow.Author.Needs.{needs}
 use borrow.Author.Tests.{lt-ltb, le-ltb, le-leb, lt-leb}
 use Rattle.graph.specs.Graph.{is-end, effective}
 use Rattle.graph.specs.Refusing.{early, verdict, input-checks, state-checks, refused}

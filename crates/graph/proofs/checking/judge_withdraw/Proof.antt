@@ -1,9 +1,8 @@
 -- `checking::judge_withdraw` meets its contract: what the role and the privilege want comes first.
 -- Assumes nothing.
-use mathlib.Core.Path.{sym, ap, _∙_}
 use borrow.Author.Needs.{needs}
-use mathlib.Core.Bool.{Bool, not}
-use Rattle.sets.specs.Sets.{member}
+use mathlib.Core.Bool.{not}
+use mathlib.Core.Path.{sym, ap, _∙_}
 use Rattle.graph.specs.Graph.{present}
 use Rattle.graph.specs.Refusing.{early, input-checks, state-checks}
 use Rattle.graph.specs.Reading.{read-verdict}
@@ -24,14 +23,8 @@ returns : tie.Need-returns
 unfolding early input-checks state-checks present
 returns c = refused-first _ _ (c .before .before .judge-role-privilege .ensures) (c .enum-told2 .given .1)
 
-direct-of-requires : tie.Need-direct-of-requires
-direct-of-requires c κs = tt
-
-cast-member : tie.Need-cast-member
-cast-member c = search needs
-
-member-requires : tie.Need-member-requires
-member-requires c κs = tt
+is-direct-requires : tie.Need-is-direct-requires
+is-direct-requires c κs = tt
 
 refuse-requires : tie.Need-refuse-requires
 refuse-requires c κs = tt
@@ -39,20 +32,18 @@ refuse-requires c κs = tt
 returns-2 : tie.Need-returns-2
 unfolding early input-checks state-checks present
 returns-2 c =
-    let m = c .before .before in
-    let b = m .before .before in
+    let b = c .before .before in
     c .refuse .ensures
     ∙ sym (passed-first _ _ (b .before .before .before .judge-role-privilege .ensures) (b .before .enum-told .given .1)
-    ∙ stops _ _ (ap not (ap (member _) (sym (b .direct-of .ensures)) ∙ sym (m .member .ensures)) ∙ c .before .if1 .taken))
+    ∙ stops _ _ (ap not (sym (b .is-direct .ensures)) ∙ c .before .if1 .taken))
 
 returns-3 : tie.Need-returns-3
 unfolding early input-checks state-checks present read-verdict
 returns-3 c =
-    let m = c .before in
-    let b = m .before .before in
+    let b = c .before in
     ends
     ∙ sym (passed-first _ _ (b .before .before .before .judge-role-privilege .ensures) (b .before .enum-told .given .1)
-    ∙ moves-on _ _ (ap not (ap (member _) (sym (b .direct-of .ensures)) ∙ sym (m .member .ensures)) ∙ c .if1 .left))
+    ∙ moves-on _ _ (ap not (sym (b .is-direct .ensures)) ∙ c .if1 .left))
 
 pub judge-withdraw-spec : {M : Type 1} → statement M
 judge-withdraw-spec =
@@ -62,9 +53,7 @@ judge-withdraw-spec =
     enum-told
     enum-told-2
     returns
-    direct-of-requires
-    cast-member
-    member-requires
+    is-direct-requires
     refuse-requires
     returns-2
     returns-3)

@@ -1,6 +1,5 @@
 -- `graph::declaring::is_declared` meets its contract: the code looks for the higher privilege in the entry of the lower one.
 -- Assumes nothing.
-use borrow.Author.Needs.{needs}
 use borrow.Author.Tests.{lt-ltb, le-ltb}
 use mathlib.Core.Path.{_∙_, ap}
 use Rattle.sets.specs.Sets.{member}

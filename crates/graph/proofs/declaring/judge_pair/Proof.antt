@@ -1,6 +1,5 @@
 -- `graph::declaring::judge_pair` meets its contract: it judges by one check after the other.
 -- Assumes nothing.
-use borrow.Author.Needs.{needs}
 use borrow.Author.Tests.{le-leb, lt-leb, eq-eqb, ne-eqb}
 use mathlib.Core.Path.{_∙_, sym}
 use Rattle.graph.specs.Reading.{read-verdict}

@@ -25,11 +25,8 @@ higher-of-requires c κs = tt
 entry-requires : tie.Need-entry-requires
 entry-requires c κs = tt
 
-single-requires : tie.Need-single-requires
-single-requires c κs = tt
-
-difference-requires : tie.Need-difference-requires
-difference-requires c κs = tt
+remove-requires : tie.Need-remove-requires
+remove-requires c κs = tt
 
 -- Taking out a number beyond the width takes nothing out.
 taken-out : (w s n : ℕ) → s < 2 ^ w → difference s (when (ltb n w) (single n)) ≡ difference s (single n)
@@ -49,17 +46,17 @@ taken-out w s n h =
 returns : tie.Need-returns
 unfolding take-out lift
 returns c =
-    let e = c .before .before .entry in
-    let high = c .before .before .before in
+    let e = c .before .entry in
+    let high = c .before .before in
     let low = high .before in
     let C = low .before .before .args .conflicts .now in (
       low .lower-of .ensures,
       rw (← low .lower-of .ensures, ← high .higher-of .ensures)
           (ap (set C (low .lower-of .result))
-          (c .difference .ensures ∙ ap (difference _) (c .before .single .ensures) ∙ taken-out 64 (e .result) (high .higher-of .result) (search needs) ∙ ap (λ (s : ℕ). difference s (single (high .higher-of .result))) (e .ensures))),
+          (c .remove .ensures ∙ taken-out 64 (e .result) (high .higher-of .result) (search needs) ∙ ap (λ (s : ℕ). difference s (single (high .higher-of .result))) (e .ensures))),
     )
 
 pub lifted-spec : {M : Type 1} → statement M
 lifted-spec =
     tie.close
-    (tie.spec lower-of-requires higher-of-requires entry-requires single-requires difference-requires returns)
+    (tie.spec lower-of-requires higher-of-requires entry-requires remove-requires returns)

@@ -2,16 +2,16 @@
 -- Assumes nothing.
 use borrow.Author.Needs.{needs}
 use mathlib.Core.Path.{_∙_}
-use Rattle.graph.specs.Reading.{drawn-from}
-use Rattle.graph.proofs.Drawings.{direct-picked}
+use Rattle.graph.specs.Graph.{effective}
+use Rattle.graph.specs.Drawing.{direct}
 use Rattle.graph.proofs.drawing.direct_of.Statement.{statement}
 use Rattle.graph.proofs.drawing.direct_of.Tie as tie
 
-juniors-of-requires : tie.Need-juniors-of-requires
-juniors-of-requires c κs = tt
+cast-inherited : tie.Need-cast-inherited
+cast-inherited c = search needs
 
-gathered-requires : tie.Need-gathered-requires
-gathered-requires c κs = tt
+inherited-requires : tie.Need-inherited-requires
+inherited-requires c κs = tt
 
 effective-of-requires : tie.Need-effective-of-requires
 effective-of-requires c κs = tt
@@ -20,18 +20,10 @@ difference-requires : tie.Need-difference-requires
 difference-requires c κs = tt
 
 returns : tie.Need-returns
-returns c =
-    let b = c .before .before .before in
-    let a = b .before .args in
-    c .difference .ensures
-    ∙ rw (c .before .effective-of .ensures, c .before .before .gathered .ensures, b .juniors-of .ensures) (direct-picked (drawn-from (a .roles) (a .sets .now)) (a .s .0))
+unfolding direct effective
+returns c = c .difference .ensures ∙ rw (c .before .effective-of .ensures, c .before .before .inherited .ensures)
 
 pub direct-of-spec : {M : Type 1} → statement M
 direct-of-spec =
     tie.close
-    (tie.spec
-    juniors-of-requires
-    gathered-requires
-    effective-of-requires
-    difference-requires
-    returns)
+    (tie.spec cast-inherited inherited-requires effective-of-requires difference-requires returns)

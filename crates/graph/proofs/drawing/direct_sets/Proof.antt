@@ -1,26 +1,29 @@
 -- `graph::drawing::direct_sets` meets its contract: the entries of the roles visited so far are filled in, and the others are as they were.
 -- Assumes nothing.
 use borrow.Author.Needs.{needs}
-use mathlib.Core.Path.{_∙_, ap}
+use mathlib.Core.Path.{_∙_, refl, ap}
+use lib.ListN.{length}
 use Rattle.sets.specs.Sets.{member, difference, gather}
 use Rattle.graph.specs.Graph.{role-count}
 use Rattle.graph.specs.Tables.{at}
 use Rattle.graph.specs.Drawing.{direct-table}
+use Rattle.graph.proofs.Tables.{length-table, at-table}
+use Rattle.graph.proofs.Drawings.{table-cong}
 use Rattle.graph.proofs.Loops.{left-lowest, left-falls, Filling, filling-none, filling-next, filling-done}
 use Rattle.graph.proofs.drawing.direct_sets.Statement.{statement}
 use Rattle.graph.proofs.drawing.direct_sets.Tie as tie
 
 abbrev Inv-loop : tie.InvT-loop
-Inv-loop all sets juniors direct₀ rest₀ direct rest = Filling (λ s. difference (at sets s) (gather role-count (λ r. member r (at juniors s)) (at sets))) (at sets) all rest direct
+Inv-loop all sets juniors direct₀ rest₀ direct rest = Filling (λ s. difference (at sets s) (gather role-count (λ r. member r (at juniors s)) (at sets))) (at direct₀) all rest direct
 
 abbrev μ-loop : tie.MeasureT-loop
 μ-loop all sets juniors direct₀ rest₀ direct rest = rest
 
-copied-requires : tie.Need-copied-requires Inv-loop μ-loop
-copied-requires c κs = tt
+whole-requires : tie.Need-whole-requires Inv-loop μ-loop
+whole-requires c κs = tt
 
 loop-holds : tie.Need-loop-holds Inv-loop μ-loop
-loop-holds c = filling-none _ _ (c .before .args .all) _ (search needs) (c .copied .ensures .1) (λ i. ap (λ l. at l i) (c .copied .ensures .0))
+loop-holds c = filling-none _ _ (c .before .before .args .all) _ (search needs) (ap length (c .whole .ensures) ∙ length-table role-count _) (λ i. refl)
 
 lowest-member-requires : tie.Need-lowest-member-requires Inv-loop μ-loop
 lowest-member-requires c κs = tt
@@ -37,11 +40,8 @@ element-copy-out-gathered c = left-lowest (c .before .before .loop .inv .left) (
 gathered-requires : tie.Need-gathered-requires Inv-loop μ-loop
 gathered-requires c κs = tt
 
-mul-difference : tie.Need-mul-difference Inv-loop μ-loop
-mul-difference c = search needs
-
-element-copy-out-difference : tie.Need-element-copy-out-difference Inv-loop μ-loop
-element-copy-out-difference c = left-lowest (c .before .before .before .before .loop .inv .left) (c .before .before .before .loop-test .taken) (c .before .before .lowest-member .ensures)
+entry-requires : tie.Need-entry-requires Inv-loop μ-loop
+entry-requires c κs = tt
 
 difference-requires : tie.Need-difference-requires Inv-loop μ-loop
 difference-requires c κs = tt
@@ -65,11 +65,13 @@ unfolding at
 loop-again c =
     let b = c .before .before .before .before .before in
     filling-next (b .before .before .loop .inv) (b .before .loop-test .taken) (b .lowest-member .ensures) (c .without-lowest .ensures)
-    (c .before .difference .ensures ∙ rw (c .before .before .before .gathered .ensures))
+    (c .before .difference .ensures ∙ rw (c .before .before .entry .ensures, c .before .before .before .gathered .ensures))
 
 returns : tie.Need-returns Inv-loop μ-loop
 unfolding direct-table
-returns c = filling-done (c .before .loop .inv) (c .loop-test .left)
+returns c =
+    filling-done (c .before .loop .inv) (c .loop-test .left)
+    ∙ table-cong role-count _ _ (λ i l. rw (c .before .before .whole .ensures, at-table role-count i _ l))
 
 pub direct-sets-spec : {M : Type 1} → statement M
 direct-sets-spec =
@@ -77,15 +79,14 @@ direct-sets-spec =
     (tie.spec
     Inv-loop
     μ-loop
-    copied-requires
+    whole-requires
     loop-holds
     lowest-member-requires
     cast-s
     mul-gathered
     element-copy-out-gathered
     gathered-requires
-    mul-difference
-    element-copy-out-difference
+    entry-requires
     difference-requires
     mul-direct
     array-write-direct

@@ -18,10 +18,10 @@ direct-sets-requires c κs = tt
 
 returns : tie.Need-returns
 returns c =
-    let b = c .before .before .before in
-    let a = b .before .before .args in
+    let b = c .before .before in
+    let a = b .before .before .before .before .args in
     let g = drawn-from (a .roles) (a .sets .now) in
-    c .direct-sets .ensures ∙ rw (b .senior-roles .ensures, b .before .lowers .ensures) (juniors-table g (search needs) _ (seniors-cover g))
+    c .direct-sets .ensures ∙ rw (b .senior-roles .ensures, b .before .before .lowers .ensures) (juniors-table g (search needs) _ (seniors-cover g))
 
 pub draw-spec : {M : Type 1} → statement M
 draw-spec = tie.close (tie.spec lowers-requires senior-roles-requires direct-sets-requires returns)

@@ -19,7 +19,8 @@ total-size-requires c κs = tt
 returns : tie.Need-returns
 returns c =
     let b = c .before .before .before in
-    let g = drawn-from (b .before .args .roles) (b .before .args .sets .now) in
+    let a = b .before .before .args in
+    let g = drawn-from (a .roles) (a .sets .now) in
     c .total-size .ensures ∙ rw (c .before .senior-roles .ensures, b .draw .ensures) (edges-counted g (search needs) _ (seniors-cover g))
 
 pub edge-count-spec : {M : Type 1} → statement M

@@ -1,8 +1,9 @@
 -- `graph::drawing::gathered` meets its contract: the entries of the members visited so far are gathered.
 -- Assumes nothing.
 use borrow.Author.Needs.{needs}
+use mathlib.Core.Path.{_∙_}
 use Rattle.graph.specs.Tables.{at}
-use Rattle.graph.proofs.Loops.{left-lowest, left-falls, Gathering, gathering-none, gathering-next, gathering-done}
+use Rattle.graph.proofs.Loops.{left-falls, Gathering, gathering-none, gathering-next, gathering-done}
 use Rattle.graph.proofs.drawing.gathered.Statement.{statement}
 use Rattle.graph.proofs.drawing.gathered.Tie as tie
 
@@ -13,7 +14,7 @@ abbrev μ-loop : tie.MeasureT-loop
 μ-loop table all found₀ rest₀ found rest = rest
 
 loop-holds : tie.Need-loop-holds Inv-loop μ-loop
-loop-holds c = gathering-none _ (c .args .all) (search needs)
+loop-holds c = gathering-none _ (c .before .args .all) (search needs)
 
 lowest-member-requires : tie.Need-lowest-member-requires Inv-loop μ-loop
 lowest-member-requires c κs = tt
@@ -21,11 +22,8 @@ lowest-member-requires c κs = tt
 cast-r : tie.Need-cast-r Inv-loop μ-loop
 cast-r c = search needs
 
-mul-union : tie.Need-mul-union Inv-loop μ-loop
-mul-union c = search needs
-
-element-copy-out-union : tie.Need-element-copy-out-union Inv-loop μ-loop
-element-copy-out-union c = left-lowest (c .before .before .loop .inv .left) (c .before .loop-test .taken) (c .lowest-member .ensures)
+entry-requires : tie.Need-entry-requires Inv-loop μ-loop
+entry-requires c κs = tt
 
 union-requires : tie.Need-union-requires Inv-loop μ-loop
 union-requires c κs = tt
@@ -39,10 +37,10 @@ loop-less c =
     left-falls (b .before .loop .inv .left) (b .loop-test .taken) (c .without-lowest .ensures)
 
 loop-again : tie.Need-loop-again Inv-loop μ-loop
-unfolding at
 loop-again c =
     let b = c .before .before .before in
-    gathering-next (b .before .before .loop .inv) (b .before .loop-test .taken) (b .lowest-member .ensures) (c .without-lowest .ensures) (c .before .union .ensures)
+    gathering-next (b .before .before .loop .inv) (b .before .loop-test .taken) (b .lowest-member .ensures) (c .without-lowest .ensures)
+    (c .before .union .ensures ∙ rw (c .before .before .entry .ensures))
 
 returns : tie.Need-returns Inv-loop μ-loop
 returns c = gathering-done (c .before .loop .inv) (c .loop-test .left)
@@ -56,8 +54,7 @@ gathered-spec =
     loop-holds
     lowest-member-requires
     cast-r
-    mul-union
-    element-copy-out-union
+    entry-requires
     union-requires
     without-lowest-requires
     loop-less

@@ -4,7 +4,7 @@ use borrow.Author.Needs.{needs}
 use mathlib.Core.Path.{_∙_}
 use Rattle.sets.specs.Sets.{strictly-included}
 use Rattle.graph.specs.Tables.{at}
-use Rattle.graph.proofs.Loops.{left-lowest, left-falls, Collecting, collecting-none, collecting-next, collecting-done}
+use Rattle.graph.proofs.Loops.{left-falls, Collecting, collecting-none, collecting-next, collecting-done}
 use Rattle.graph.proofs.drawing.included_in.Statement.{statement}
 use Rattle.graph.proofs.drawing.included_in.Tie as tie
 
@@ -15,7 +15,7 @@ abbrev μ-loop : tie.MeasureT-loop
 μ-loop all sets top found₀ rest₀ found rest = rest
 
 loop-holds : tie.Need-loop-holds Inv-loop μ-loop
-loop-holds c = collecting-none _ (c .args .all) (search needs)
+loop-holds c = collecting-none _ (c .before .args .all) (search needs)
 
 lowest-member-requires : tie.Need-lowest-member-requires Inv-loop μ-loop
 lowest-member-requires c κs = tt
@@ -23,11 +23,8 @@ lowest-member-requires c κs = tt
 cast-r : tie.Need-cast-r Inv-loop μ-loop
 cast-r c = search needs
 
-mul-strictly-included : tie.Need-mul-strictly-included Inv-loop μ-loop
-mul-strictly-included c = search needs
-
-element-copy-out-strictly-included : tie.Need-element-copy-out-strictly-included Inv-loop μ-loop
-element-copy-out-strictly-included c = left-lowest (c .before .before .loop .inv .left) (c .before .loop-test .taken) (c .lowest-member .ensures)
+entry-requires : tie.Need-entry-requires Inv-loop μ-loop
+entry-requires c κs = tt
 
 strictly-included-requires : tie.Need-strictly-included-requires Inv-loop μ-loop
 strictly-included-requires c κs = tt
@@ -50,12 +47,11 @@ loop-less c =
     left-falls (b .before .loop .inv .left) (b .loop-test .taken) (c .without-lowest .ensures)
 
 loop-again : tie.Need-loop-again Inv-loop μ-loop
-unfolding at
 loop-again c =
     let b = c .before .before .before .before in
     let d = b .before .before in
     collecting-next (d .before .before .loop .inv) (d .before .loop-test .taken) (d .lowest-member .ensures) (c .without-lowest .ensures)
-    (c .before .union .ensures ∙ rw (c .before .before .when .ensures, b .strictly-included .ensures, c .before .before .before .lowest-alone .ensures))
+    (c .before .union .ensures ∙ rw (c .before .before .when .ensures, b .strictly-included .ensures, b .before .entry .ensures, c .before .before .before .lowest-alone .ensures))
 
 returns : tie.Need-returns Inv-loop μ-loop
 returns c = collecting-done (c .before .loop .inv) (c .loop-test .left)
@@ -69,8 +65,7 @@ included-in-spec =
     loop-holds
     lowest-member-requires
     cast-r
-    mul-strictly-included
-    element-copy-out-strictly-included
+    entry-requires
     strictly-included-requires
     lowest-alone-requires
     when-requires

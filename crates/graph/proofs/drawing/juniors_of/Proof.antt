@@ -21,7 +21,7 @@ difference-requires c κs = tt
 
 returns : tie.Need-returns
 returns c =
-    let a = c .before .before .before .before .args in
+    let a = c .before .before .before .before .before .args in
     c .difference .ensures ∙ rw (c .before .all-lower .ensures, c .before .before .lower .ensures) (juniors-picked (drawn-from (a .roles) (a .sets .now)) (a .s .0))
 
 pub juniors-of-spec : {M : Type 1} → statement M

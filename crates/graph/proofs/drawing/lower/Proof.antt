@@ -16,7 +16,7 @@ union-requires c κs = tt
 
 returns : tie.Need-returns
 returns c =
-    let a = c .before .before .before .args in
+    let a = c .before .before .before .before .args in
     c .union .ensures ∙ rw (c .before .before .ordinary-roles .ensures, c .before .if1 .taken) (below-top (drawn-from (a .roles) (a .sets .now)) (search needs))
 
 member-requires : tie.Need-member-requires
@@ -34,9 +34,9 @@ union-requires-2 c κs = tt
 returns-2 : tie.Need-returns-2
 unfolding effective
 returns-2 c =
-    let b = c .before .before .before .before in
+    let b = c .before .before .before in
     let o = b .before .before .before .ordinary-roles .ensures in
-    let a = b .before .before .before .before .args in
+    let a = b .before .before .before .before .before .args in
     let g = drawn-from (a .roles) (a .sets .now) in
     c .union2 .ensures
     ∙ rw (c .before .included-in .ensures, c .before .before .entry .ensures, o)
@@ -44,7 +44,7 @@ returns-2 c =
 
 returns-3 : tie.Need-returns-3
 returns-3 c =
-    let a = c .before .before .before .before .args in
+    let a = c .before .before .before .before .before .args in
     let g = drawn-from (a .roles) (a .sets .now) in
     below-none g (search needs) (a .s) (c .before .before .if1 .left) (not-ordinary g (a .s) (c .before .member .ensures) (c .before .before .before .ordinary-roles .ensures) (c .if2 .left))
 

@@ -51,7 +51,7 @@ loop-again c =
 returns : tie.Need-returns Inv-loop μ-loop
 returns c =
     let b = c .before .before in
-    let g = drawn-from (b .before .args .roles) (b .before .args .sets .now) in
+    let g = drawn-from (b .before .before .args .roles) (b .before .before .args .sets .now) in
     filling-done (c .before .loop .inv) (c .loop-test .left) ∙ rw (b .senior-roles .ensures) (lowers-table g (search needs) _ (seniors-cover g))
 
 pub lowers-spec : {M : Type 1} → statement M

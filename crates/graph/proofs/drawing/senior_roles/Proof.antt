@@ -1,6 +1,5 @@
 -- `graph::drawing::senior_roles` meets its contract: MaxRole is put to the ordinary roles.
 -- Assumes nothing.
-use borrow.Author.Needs.{needs}
 use mathlib.Core.Path.{_∙_}
 use Rattle.graph.proofs.drawing.senior_roles.Statement.{statement}
 use Rattle.graph.proofs.drawing.senior_roles.Tie as tie

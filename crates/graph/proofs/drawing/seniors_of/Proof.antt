@@ -22,7 +22,7 @@ seniors-in-requires c κs = tt
 returns : tie.Need-returns
 returns c =
     let b = c .before .before .before in
-    let a = b .before .before .args in
+    let a = b .before .before .before .args in
     let g = drawn-from (a .roles) (a .sets .now) in
     c .seniors-in .ensures ∙ rw (b .senior-roles .ensures, b .before .draw .ensures) (seniors-found g (search needs) _ (seniors-cover g) (a .r .0))
 

@@ -1,4 +1,4 @@
--- `editing::change` meets its contract: the checks before closing, then those after it, and a refusal by either leaves the graph.
+-- `graph::editing::change` meets its contract: the checks before closing, then those after it, and a refusal by either leaves the graph.
 -- Assumes nothing.
 use borrow.Author.Needs.{needs}
 use Rattle.graph.specs.Refusing.{change-checks, judged}
@@ -17,6 +17,9 @@ enum-told c = search needs
 enum-told-2 : tie.Need-enum-told-2
 enum-told-2 c = search needs
 
+slice-aggregate-judge-closed : tie.Need-slice-aggregate-judge-closed
+slice-aggregate-judge-closed c = search needs
+
 judge-closed-requires : tie.Need-judge-closed-requires
 judge-closed-requires c κs = tt
 
@@ -29,27 +32,37 @@ enum-told-4 c = search needs
 returns : tie.Need-returns
 unfolding judged
 returns c =
-    let g = read-graph (c .before .before .before .before .before .args .t1) in
-    stays (change-checks g (read-change (c .before .before .before .before .before .args .change)) _) g _
-    (refused-early (c .before .before .before .before .before .args .t1 .roles) (c .before .before .before .before .before .args .t1 .sets) (c .before .before .before .before .before .args .t1 .conflicts) (read-change (c .before .before .before .before .before .args .change)) (c .before .before .attempt .result) (c .before .before .attempt .ensures) (c .enum-told .given .1))
-    (c .enum-told .given .1)
+    let p = c .before .before .before .before .before .before in
+    let g = p .args .t1 in
+    let d = read-change (p .args .change) in
+    let a = c .before .before .attempt in
+    let told = c .enum-told .given .1 in
+    stays (change-checks (read-graph g) d _) (read-graph g) _ (refused-early (g .roles) (g .sets) (g .conflicts) d (a .result) (a .ensures) told) told
 
 returns-2 : tie.Need-returns-2
 unfolding judged
 returns-2 c =
-    let g = read-graph (c .before .before .before .before .before .before .before .before .before .before .before .before .args .t1) in
-    stays (change-checks g (read-change (c .before .before .before .before .before .before .before .before .before .before .before .before .args .change)) _) g _
-    (decided-late (c .before .before .before .before .before .before .before .before .before .before .before .before .args .t1 .roles) (c .before .before .before .before .before .before .before .before .before .before .before .before .args .t1 .sets) (c .before .before .before .before .before .before .before .before .before .before .before .before .args .t1 .conflicts) (read-change (c .before .before .before .before .before .before .before .before .before .before .before .before .args .change)) (c .before .before .before .before .before .before .before .before .before .attempt .result) (c .before .before .before .before .before .before .before .before .before .attempt .ensures) (c .before .before .before .before .before .before .before .enum-told2 .given .1) (c .before .before .judge-closed .result) (c .before .before .judge-closed .ensures))
-    (c .enum-told3 .given .1)
+    let m = c .before .before .before .before .before .before .before in
+    let p = m .before .before .before .before .before .before in
+    let g = p .args .t1 in
+    let d = read-change (p .args .change) in
+    let a = m .before .before .attempt in
+    let told = m .enum-told2 .given .1 in
+    let j = c .before .before .judge-closed in
+    stays (change-checks (read-graph g) d _) (read-graph g) _ (decided-late (g .roles) (g .sets) (g .conflicts) d (a .result) (a .ensures) told (j .result) (j .ensures)) (c .enum-told3 .given .1)
 
 returns-3 : tie.Need-returns-3
 unfolding judged
 returns-3 c =
-    let g = read-graph (c .before .before .before .before .before .before .before .before .before .before .before .before .args .t1) in
-    becomes (change-checks g (read-change (c .before .before .before .before .before .before .before .before .before .before .before .before .args .change)) _) g _
-    (decided-late (c .before .before .before .before .before .before .before .before .before .before .before .before .args .t1 .roles) (c .before .before .before .before .before .before .before .before .before .before .before .before .args .t1 .sets) (c .before .before .before .before .before .before .before .before .before .before .before .before .args .t1 .conflicts) (read-change (c .before .before .before .before .before .before .before .before .before .before .before .before .args .change)) (c .before .before .before .before .before .before .before .before .before .attempt .result) (c .before .before .before .before .before .before .before .before .before .attempt .ensures) (c .before .before .before .before .before .before .before .enum-told2 .given .1) (c .before .before .judge-closed .result) (c .before .before .judge-closed .ensures))
-    (c .enum-told4 .given .1)
-    (after-passed (c .before .before .before .before .before .before .before .before .before .before .before .before .args .t1 .roles) (c .before .before .before .before .before .before .before .before .before .before .before .before .args .t1 .sets) (c .before .before .before .before .before .before .before .before .before .before .before .before .args .t1 .conflicts) (read-change (c .before .before .before .before .before .before .before .before .before .before .before .before .args .change)) (c .before .before .before .before .before .before .before .before .before .attempt .result) (c .before .before .before .before .before .before .before .before .before .attempt .ensures) (c .before .before .before .before .before .before .before .enum-told2 .given .1))
+    let m = c .before .before .before .before .before .before .before in
+    let p = m .before .before .before .before .before .before in
+    let g = p .args .t1 in
+    let d = read-change (p .args .change) in
+    let a = m .before .before .attempt in
+    let told = m .enum-told2 .given .1 in
+    let j = c .before .before .judge-closed in
+    becomes (change-checks (read-graph g) d _) (read-graph g) _ (decided-late (g .roles) (g .sets) (g .conflicts) d (a .result) (a .ensures) told (j .result) (j .ensures)) (c .enum-told4 .given .1)
+    (after-passed (g .roles) (g .sets) (g .conflicts) d (a .result) (a .ensures) told)
 
 pub change-spec : {M : Type 1} → statement M
 change-spec =
@@ -58,6 +71,7 @@ change-spec =
     attempt-requires
     enum-told
     enum-told-2
+    slice-aggregate-judge-closed
     judge-closed-requires
     enum-told-3
     enum-told-4

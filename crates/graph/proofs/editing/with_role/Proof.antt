@@ -1,22 +1,17 @@
--- `editing::with_role` meets its contract.
+-- `graph::editing::with_role` meets its contract: the role is put in, where its number is below 64.
 -- Assumes nothing.
-use mathlib.Core.Path.{ap, _∙_}
 use borrow.Author.Needs.{needs}
-use Rattle.sets.specs.Sets.{union}
 use Rattle.graph.proofs.editing.with_role.Statement.{statement}
 use Rattle.graph.proofs.editing.with_role.Tie as tie
 
 cast-i : tie.Need-cast-i
 cast-i c = search needs
 
-single-requires : tie.Need-single-requires
-single-requires c κs = tt
-
-union-requires : tie.Need-union-requires
-union-requires c κs = tt
+insert-requires : tie.Need-insert-requires
+insert-requires c κs = tt
 
 returns : tie.Need-returns
-returns c = c .union .ensures ∙ ap (union _) (c .before .single .ensures)
+returns c = c .insert .ensures
 
 pub with-role-spec : {M : Type 1} → statement M
-with-role-spec = tie.close (tie.spec cast-i single-requires union-requires returns)
+with-role-spec = tie.close (tie.spec cast-i insert-requires returns)

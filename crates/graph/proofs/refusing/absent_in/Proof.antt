@@ -1,6 +1,5 @@
 -- `graph::refusing::absent_in` meets its contract: present are the end roles, which are the members of 3, and the ordinary roles.
 -- Assumes nothing.
-use borrow.Author.Needs.{needs}
 use mathlib.Core.Bool.{Bool, not, _&&_, _||_}
 use mathlib.Core.List.{[]}
 use mathlib.Core.Path.{_≡_, ap, _∙_}
@@ -11,7 +10,7 @@ use Rattle.sets.proofs.Counting.{lowest-cong}
 use Rattle.sets.proofs.Laws.{member-union, member-difference}
 use Rattle.graph.specs.Graph.{role-count, present}
 use Rattle.graph.specs.Reading.{drawn-from}
-use Rattle.graph.proofs.Searching.{member-ends}
+use Rattle.graph.proofs.Drawings.{member-ends}
 use Rattle.graph.proofs.refusing.absent_in.Statement.{statement}
 use Rattle.graph.proofs.refusing.absent_in.Tie as tie
 

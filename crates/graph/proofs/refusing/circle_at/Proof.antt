@@ -1,35 +1,26 @@
--- `graph::refusing::circle_at` meets its contract: the roles at or below j and the seniors have one in common.
+-- `graph::refusing::circle_at` meets its contract: a senior is j, or some senior lies below it.
 -- Assumes nothing.
 use borrow.Author.Needs.{needs}
-use mathlib.Core.Bool.{not}
-use mathlib.Core.Path.{_∙_, sym, ap, ap₂}
-use Prim.Native.Nat.{ℕ}
-use lib.Dec.{eqb}
-use Rattle.sets.specs.Sets.{union, intersection}
-use Rattle.graph.proofs.Searching.{circle-test}
+use Rattle.graph.specs.Reading.{drawn-from}
+use Rattle.graph.proofs.Searching.{circle-tests}
 use Rattle.graph.proofs.refusing.circle_at.Statement.{statement}
 use Rattle.graph.proofs.refusing.circle_at.Tie as tie
 
-lower-requires : tie.Need-lower-requires
-lower-requires c κs = tt
+member-requires : tie.Need-member-requires
+member-requires c κs = tt
 
-single-requires : tie.Need-single-requires
-single-requires c κs = tt
-
-union-requires : tie.Need-union-requires
-union-requires c κs = tt
-
-intersection-requires : tie.Need-intersection-requires
-intersection-requires c κs = tt
+some-below-requires : tie.Need-some-below-requires
+some-below-requires c κs = tt
 
 returns : tie.Need-returns
 returns c =
-    let u = c .before in
-    let seniors = u .before .before .before .args .seniors in
-    let e = u .union .ensures ∙ ap₂ union (u .before .before .lower .ensures) (u .before .single .ensures) in
-    ap (λ (s : ℕ). not (eqb s 0)) (c .intersection .ensures ∙ ap (λ (s : ℕ). intersection s seniors) e) ∙ sym (circle-test _ _ seniors)
+    let a = c .before .before .before .args in
+    rw (← circle-tests (drawn-from (a .roles) (a .sets .now)) (a .seniors) (a .j) (search needs), ← c .before .member .ensures, c .if1 .taken)
+
+returns-2 : tie.Need-returns-2
+returns-2 c =
+    let a = c .before .before .before .before .args in
+    rw (← circle-tests (drawn-from (a .roles) (a .sets .now)) (a .seniors) (a .j) (search needs), ← c .before .before .member .ensures, c .before .if1 .left) (c .some-below .ensures)
 
 pub circle-at-spec : {M : Type 1} → statement M
-circle-at-spec =
-    tie.close
-    (tie.spec lower-requires single-requires union-requires intersection-requires returns)
+circle-at-spec = tie.close (tie.spec member-requires some-below-requires returns returns-2)

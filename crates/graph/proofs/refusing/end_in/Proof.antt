@@ -1,6 +1,5 @@
 -- `graph::refusing::end_in` meets its contract: the end roles are the members of 3.
 -- Assumes nothing.
-use borrow.Author.Needs.{needs}
 use mathlib.Core.Bool.{Bool, _&&_}
 use mathlib.Core.Path.{_≡_, ap, _∙_}
 use Prim.Native.Nat.{ℕ}
@@ -9,7 +8,7 @@ use Rattle.sets.specs.Sets.{member, intersection, lowest-member}
 use Rattle.sets.proofs.Counting.{lowest-cong}
 use Rattle.sets.proofs.Laws.{member-intersection}
 use Rattle.graph.specs.Graph.{role-count, is-end}
-use Rattle.graph.proofs.Searching.{member-ends}
+use Rattle.graph.proofs.Drawings.{member-ends}
 use Rattle.graph.proofs.refusing.end_in.Statement.{statement}
 use Rattle.graph.proofs.refusing.end_in.Tie as tie
 

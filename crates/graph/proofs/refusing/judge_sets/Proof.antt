@@ -1,6 +1,5 @@
 -- `graph::refusing::judge_sets` meets its contract: it judges by one check after the other.
 -- Assumes nothing.
-use borrow.Author.Needs.{needs}
 use mathlib.Core.Path.{_∙_, sym, ap}
 use Rattle.graph.specs.Graph.{ordinary, effective}
 use Rattle.graph.specs.Refusing.{refused, empty-role, twin-role, closed-checks}

@@ -3,7 +3,8 @@
 use borrow.Author.Needs.{needs}
 use mathlib.Core.Bool.{Bool}
 use mathlib.Core.List.{List}
-use mathlib.Core.Path.{_≡_, ap, _∙_, sym}
+use mathlib.Core.Logic.{_≢_}
+use mathlib.Core.Path.{_≡_, ap, _∙_, sym, subst}
 use Prim.Native.Nat.{ℕ, _<_}
 use Rattle.sets.specs.Sets.{intersection, difference}
 use Rattle.sets.proofs.Laws.{difference-lt}
@@ -61,11 +62,8 @@ cast-j c = let l = privilege-lt c in search needs
 without-lowest-requires : tie.Need-without-lowest-requires Inv-loop μ-loop Inv-roles μ-roles
 without-lowest-requires c κs = tt
 
-mul-if1 : tie.Need-mul-if1 Inv-loop μ-loop Inv-roles μ-roles
-mul-if1 c = let l = privilege-lt (c .before) in search needs
-
-element-copy-out-if1 : tie.Need-element-copy-out-if1 Inv-loop μ-loop Inv-roles μ-roles
-element-copy-out-if1 c = privilege-lt (c .before)
+entry-requires-2 : tie.Need-entry-requires-2 Inv-loop μ-loop Inv-roles μ-roles
+entry-requires-2 c κs = tt
 
 loop-less : tie.Need-loop-less Inv-loop μ-loop Inv-roles μ-roles
 loop-less c =
@@ -80,7 +78,7 @@ loop-again c =
     let some = b .before .before .loop-test .taken in
     let e = b .before .first2 .ensures in
     let d = b .without-lowest .ensures in
-    (z, goes-on s some e d (partner-none _ s some e d (c .if1 .left)))
+    (z, goes-on s some e d (partner-none _ s some e d (subst (λ (z : ℕ). intersection (b .without-lowest .result) z ≡ 0) (c .before .entry2 .ensures) (c .if1 .left))))
 
 without-lowest-requires-2 : tie.Need-without-lowest-requires-2 Inv-loop μ-loop Inv-roles μ-roles
 without-lowest-requires-2 c κs = tt
@@ -113,7 +111,7 @@ returns-2 c =
     let e = b .before .first2 .ensures in
     let r = b .before .before .before .before .before .before in
     hit (r .before .before .roles .inv .1) (r .before .roles-test .taken) (r .first .ensures)
-    (ap (holds-pair _) (sym (b .before .before .before .before .entry .ensures)) ∙ sym (any-hit t some e (partner-found _ t some e (b .without-lowest .ensures) (c .if1 .taken))))
+    (ap (holds-pair _) (sym (b .before .before .before .before .entry .ensures)) ∙ sym (any-hit t some e (partner-found _ t some e (b .without-lowest .ensures) (subst (λ (z : ℕ). intersection (b .without-lowest .result) z ≢ 0) (c .before .entry2 .ensures) (c .if1 .taken)))))
     ∙ among-ordinary _ _
 
 pub pair-role-spec : {M : Type 1} → statement M
@@ -133,8 +131,7 @@ pair-role-spec =
     first-requires-2
     cast-j
     without-lowest-requires
-    mul-if1
-    element-copy-out-if1
+    entry-requires-2
     loop-less
     loop-again
     without-lowest-requires-2

@@ -1,25 +1,10 @@
 -- `seats::deciding::decide` meets its contract: each arm is its kind.
 -- Assumes nothing.
 use borrow.Author.Needs.{needs}
-use mathlib.Core.Path.{_≡_, sym, ap, ap₂, _∙_, subst}
-use mathlib.Core.Bool.{Bool, cond, not}
-use mathlib.Core.List.{List, [], _∷_, _++_}
-use Prim.Native.Nat.{ℕ, max, _<_}
-use native.Mathlib.Omega.{arith}
-use borrow.Author.Tests.{lt-ltb, not-true, not-false}
-use Rattle.sets.specs.Sets.{member, single, union, difference, when}
-use Rattle.graph.specs.Graph.{Graph, effective, present, privilege-count}
-use Rattle.graph.specs.Tables.{put, take-out}
-use Rattle.graph.specs.Conflicts as conflicts
-use Rattle.graph.specs.Refusing.{passed, verdict, declare-checks, lift-checks, refuse, refuse-lowest}
-use Rattle.graph.specs.Refusing as refusing
-use Rattle.graph.specs.Reading.{read-verdict}
-use Rattle.graph.proofs.Judging.{stops, moves-on, ends, refused-first, passed-first, place-found, place-none}
-use Rattle.seats.specs.Seats.{State, seat-count, assigned, held, pair-seat, offered-seat}
-use Rattle.seats.specs.Calls.{Call, Answer, accepted, refused, declare, lift, assign, unassign, ask, checks, after, reply, with-graph, with-conflicts, with-seats}
-use Rattle.seats.specs.Reading.{state-of, read-answer, read-request, read-decision}
-use Rattle.seats.proofs.Requests.{refused-by, passed-by, none-stored, entry-stored, declare-numbers, lift-numbers, seat-role-checks, seat-numbers}
-use Rattle.seats.specs.Calls.{perform}
+use mathlib.Core.Path.{sym, ap₂, _∙_}
+use Rattle.seats.specs.Seats.{State}
+use Rattle.seats.specs.Calls.{Answer}
+use Rattle.seats.specs.Reading.{state-of, read-request}
 use Rattle.seats.proofs.Asking.{steps-ask, ask-keeps}
 use Rattle.seats.proofs.deciding.decide.Statement.{statement}
 use Rattle.seats.proofs.deciding.decide.Tie as tie

@@ -1,25 +1,22 @@
 -- `seats::deciding::decide_assign` meets its contract: each return is the check that it stands for, and what passes them is stored.
 -- Assumes nothing.
 use borrow.Author.Needs.{needs}
-use mathlib.Core.Path.{_≡_, sym, ap, ap₂, _∙_, subst}
-use mathlib.Core.Bool.{Bool, cond, not}
-use mathlib.Core.List.{List, [], _∷_, _++_}
-use Prim.Native.Nat.{ℕ, max, _<_}
-use native.Mathlib.Omega.{arith}
-use borrow.Author.Tests.{lt-ltb, not-true, not-false}
-use Rattle.sets.specs.Sets.{member, single, union, difference, when}
-use Rattle.graph.specs.Graph.{Graph, effective, present, privilege-count}
-use Rattle.graph.specs.Tables.{put, take-out}
-use Rattle.graph.specs.Conflicts as conflicts
-use Rattle.graph.specs.Refusing.{passed, verdict, declare-checks, lift-checks, refuse, refuse-lowest}
-use Rattle.graph.specs.Refusing as refusing
+use borrow.Author.Tests.{lt-ltb}
+use mathlib.Core.Bool.{Bool}
+use mathlib.Core.List.{List, [], _∷_}
+use mathlib.Core.Path.{sym, ap, ap₂, _∙_}
+use Prim.Native.Nat.{ℕ}
+use lib.ListN.{set}
+use Rattle.sets.specs.Sets.{member, single, union, when}
+use Rattle.graph.specs.Graph.{effective, present}
+use Rattle.graph.specs.Tables.{put}
+use Rattle.graph.specs.Refusing.{refuse, refuse-lowest}
 use Rattle.graph.specs.Reading.{read-verdict}
 use Rattle.graph.proofs.Judging.{stops, moves-on, ends, refused-first, passed-first, place-found, place-none}
-use Rattle.seats.specs.Seats.{State, seat-count, assigned, held, pair-seat, offered-seat}
-use Rattle.seats.specs.Calls.{Call, Answer, accepted, refused, declare, lift, assign, unassign, ask, checks, after, reply, with-graph, with-conflicts, with-seats}
-use Rattle.seats.specs.Reading.{state-of, read-answer, read-request, read-decision}
-use Rattle.seats.proofs.Requests.{refused-by, passed-by, none-stored, entry-stored, declare-numbers, lift-numbers, seat-role-checks, seat-numbers}
-use lib.ListN.{set}
+use Rattle.seats.specs.Seats.{seat-count, assigned, held, pair-seat}
+use Rattle.seats.specs.Calls.{Answer, accepted, refused, assign, checks, after, reply, with-seats}
+use Rattle.seats.specs.Reading.{state-of, read-answer}
+use Rattle.seats.proofs.Requests.{refused-by, passed-by, none-stored, entry-stored, seat-role-checks, seat-numbers}
 use Rattle.seats.proofs.deciding.decide_assign.Statement.{statement}
 use Rattle.seats.proofs.deciding.decide_assign.Tie as tie
 
@@ -87,11 +84,8 @@ returns-2 c =
     ∙ ap (λ (x : Answer). (x, s)) (c .before .refusal2 .ensures ∙ ap (refused 30) (q .pair-seat-after .ensures))
     ∙ sym (refused-by s (assign (g .a .0) (g .b .0)) (passed-first (seat-role-checks (s .graph) (g .a .0) (g .b .0)) (refuse 22 (assigned s (g .a .0) (g .b .0)) (g .a .0) ∷ refuse-lowest 30 seat-count (pair-seat (after s (assign (g .a .0) (g .b .0)))) ∷ []) j told ∙ moves-on _ _ (ap (member _) (sym (m .before .entry .ensures)) ∙ sym (m .member .ensures) ∙ q .before .if1 .left) ∙ stops _ _ (place-found _ (q .pair-seat-after .ensures) (c .before .before .if2 .taken))))
 
-single-requires : tie.Need-single-requires
-single-requires c κs = tt
-
-union-requires : tie.Need-union-requires
-union-requires c κs = tt
+insert-requires : tie.Need-insert-requires
+insert-requires c κs = tt
 
 none-requires : tie.Need-none-requires
 none-requires c κs = tt
@@ -108,17 +102,17 @@ returns-3 c =
 returns-4 : tie.Need-returns-4
 unfolding read-verdict read-answer present checks assigned reply after with-seats put pair-seat held effective when
 returns-4 c =
-    let g = c .before .before .before .before .before .before .before .before .before .before .before .before .before .before .before .before .args in
+    let g = c .before .before .before .before .before .before .before .before .before .before .before .before .before .before .before .args in
     let s = state-of (g .roles) (g .sets .now) (g .conflicts .now) (g .seats .now) in
-    let q = c .before .before .before .before in
+    let q = c .before .before .before in
     let m = q .before .before in
     let told = m .before .before .before .before .enum-told .given .1 in
     let j = m .before .before .before .before .before .before .judge-seat .ensures in
     let n = seat-numbers (s .graph) (g .a .0) (g .b .0) (sym j ∙ ap read-verdict told) in
     ap₂ (λ (C W : List ℕ). (accepted, state-of (g .roles) (g .sets .now) C W)) (none-stored (g .conflicts .now) _ (c .none .ensures))
     (entry-stored (g .seats .now) _ (n .0)
-    ∙ ap (set (g .seats .now) (g .a .0)) (c .before .union .ensures ∙ ap₂ union (m .before .entry .ensures) (c .before .before .single .ensures ∙ ap (λ (t : Bool). when t (single (g .b .0))) (lt-ltb _ _ (n .1)))))
-    ∙ sym (passed-by s (assign (g .a .0) (g .b .0)) (passed-first (seat-role-checks (s .graph) (g .a .0) (g .b .0)) (refuse 22 (assigned s (g .a .0) (g .b .0)) (g .a .0) ∷ refuse-lowest 30 seat-count (pair-seat (after s (assign (g .a .0) (g .b .0)))) ∷ []) j told ∙ moves-on _ _ (ap (member _) (sym (m .before .entry .ensures)) ∙ sym (m .member .ensures) ∙ q .before .if1 .left) ∙ moves-on _ _ (place-none _ (q .pair-seat-after .ensures) (c .before .before .before .if2 .left)) ∙ sym ends))
+    ∙ ap (set (g .seats .now) (g .a .0)) (c .before .insert .ensures ∙ ap₂ union (m .before .entry .ensures) (ap (λ (t : Bool). when t (single (g .b .0))) (lt-ltb _ _ (n .1)))))
+    ∙ sym (passed-by s (assign (g .a .0) (g .b .0)) (passed-first (seat-role-checks (s .graph) (g .a .0) (g .b .0)) (refuse 22 (assigned s (g .a .0) (g .b .0)) (g .a .0) ∷ refuse-lowest 30 seat-count (pair-seat (after s (assign (g .a .0) (g .b .0)))) ∷ []) j told ∙ moves-on _ _ (ap (member _) (sym (m .before .entry .ensures)) ∙ sym (m .member .ensures) ∙ q .before .if1 .left) ∙ moves-on _ _ (place-none _ (q .pair-seat-after .ensures) (c .before .before .if2 .left)) ∙ sym ends))
 
 pub decide-assign-spec : {M : Type 1} → statement M
 decide-assign-spec =
@@ -139,8 +133,7 @@ decide-assign-spec =
     refusal-requires-2
     unchanged-requires-3
     returns-2
-    single-requires
-    union-requires
+    insert-requires
     none-requires
     returns-3
     returns-4)

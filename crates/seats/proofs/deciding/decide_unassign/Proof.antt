@@ -1,25 +1,22 @@
 -- `seats::deciding::decide_unassign` meets its contract: each return is the check that it stands for, and what passes them is stored.
 -- Assumes nothing.
 use borrow.Author.Needs.{needs}
-use mathlib.Core.Path.{_≡_, sym, ap, ap₂, _∙_, subst}
-use mathlib.Core.Bool.{Bool, cond, not}
-use mathlib.Core.List.{List, [], _∷_, _++_}
-use Prim.Native.Nat.{ℕ, max, _<_}
-use native.Mathlib.Omega.{arith}
 use borrow.Author.Tests.{lt-ltb, not-true, not-false}
-use Rattle.sets.specs.Sets.{member, single, union, difference, when}
-use Rattle.graph.specs.Graph.{Graph, effective, present, privilege-count}
-use Rattle.graph.specs.Tables.{put, take-out}
-use Rattle.graph.specs.Conflicts as conflicts
-use Rattle.graph.specs.Refusing.{passed, verdict, declare-checks, lift-checks, refuse, refuse-lowest}
-use Rattle.graph.specs.Refusing as refusing
-use Rattle.graph.specs.Reading.{read-verdict}
-use Rattle.graph.proofs.Judging.{stops, moves-on, ends, refused-first, passed-first, place-found, place-none}
-use Rattle.seats.specs.Seats.{State, seat-count, assigned, held, pair-seat, offered-seat}
-use Rattle.seats.specs.Calls.{Call, Answer, accepted, refused, declare, lift, assign, unassign, ask, checks, after, reply, with-graph, with-conflicts, with-seats}
-use Rattle.seats.specs.Reading.{state-of, read-answer, read-request, read-decision}
-use Rattle.seats.proofs.Requests.{refused-by, passed-by, none-stored, entry-stored, declare-numbers, lift-numbers, seat-role-checks, seat-numbers}
+use mathlib.Core.Bool.{Bool, not}
+use mathlib.Core.List.{List, [], _∷_}
+use mathlib.Core.Path.{sym, ap, ap₂, _∙_}
+use Prim.Native.Nat.{ℕ}
 use lib.ListN.{set}
+use Rattle.sets.specs.Sets.{member, single, difference, when}
+use Rattle.graph.specs.Graph.{present}
+use Rattle.graph.specs.Tables.{take-out}
+use Rattle.graph.specs.Refusing.{refuse}
+use Rattle.graph.specs.Reading.{read-verdict}
+use Rattle.graph.proofs.Judging.{stops, moves-on, ends, refused-first, passed-first}
+use Rattle.seats.specs.Seats.{assigned}
+use Rattle.seats.specs.Calls.{Answer, accepted, unassign, checks, after, reply, with-seats}
+use Rattle.seats.specs.Reading.{state-of, read-answer}
+use Rattle.seats.proofs.Requests.{refused-by, passed-by, none-stored, entry-stored, seat-role-checks, seat-numbers}
 use Rattle.seats.proofs.deciding.decide_unassign.Statement.{statement}
 use Rattle.seats.proofs.deciding.decide_unassign.Tie as tie
 
@@ -65,11 +62,8 @@ returns c =
     ∙ ap (λ (x : Answer). (x, s)) (c .before .refusal .ensures)
     ∙ sym (refused-by s (unassign (g .a .0) (g .b .0)) (passed-first (seat-role-checks (s .graph) (g .a .0) (g .b .0)) (refuse 23 (not (assigned s (g .a .0) (g .b .0))) (g .a .0) ∷ []) j told ∙ stops _ _ (ap not (ap (member _) (sym (m .before .entry .ensures)) ∙ sym (m .member .ensures) ∙ not-true _ (c .before .before .if1 .taken)))))
 
-single-requires : tie.Need-single-requires
-single-requires c κs = tt
-
-difference-requires : tie.Need-difference-requires
-difference-requires c κs = tt
+remove-requires : tie.Need-remove-requires
+remove-requires c κs = tt
 
 none-requires : tie.Need-none-requires
 none-requires c κs = tt
@@ -86,16 +80,16 @@ returns-2 c =
 returns-3 : tie.Need-returns-3
 unfolding read-verdict read-answer present checks assigned reply after with-seats take-out when
 returns-3 c =
-    let g = c .before .before .before .before .before .before .before .before .before .before .before .before .before .before .args in
+    let g = c .before .before .before .before .before .before .before .before .before .before .before .before .before .args in
     let s = state-of (g .roles) (g .sets .now) (g .conflicts .now) (g .seats .now) in
-    let m = c .before .before .before .before in
+    let m = c .before .before .before in
     let told = m .before .before .before .before .enum-told .given .1 in
     let j = m .before .before .before .before .before .before .judge-seat .ensures in
     let n = seat-numbers (s .graph) (g .a .0) (g .b .0) (sym j ∙ ap read-verdict told) in
     ap₂ (λ (C W : List ℕ). (accepted, state-of (g .roles) (g .sets .now) C W)) (none-stored (g .conflicts .now) _ (c .none .ensures))
     (entry-stored (g .seats .now) _ (n .0)
-    ∙ ap (set (g .seats .now) (g .a .0)) (c .before .difference .ensures ∙ ap₂ difference (m .before .entry .ensures) (c .before .before .single .ensures ∙ ap (λ (t : Bool). when t (single (g .b .0))) (lt-ltb _ _ (n .1)))))
-    ∙ sym (passed-by s (unassign (g .a .0) (g .b .0)) (passed-first (seat-role-checks (s .graph) (g .a .0) (g .b .0)) (refuse 23 (not (assigned s (g .a .0) (g .b .0))) (g .a .0) ∷ []) j told ∙ moves-on _ _ (ap not (ap (member _) (sym (m .before .entry .ensures)) ∙ sym (m .member .ensures) ∙ not-false _ (c .before .before .before .if1 .left))) ∙ sym ends))
+    ∙ ap (set (g .seats .now) (g .a .0)) (c .before .remove .ensures ∙ ap₂ difference (m .before .entry .ensures) (ap (λ (t : Bool). when t (single (g .b .0))) (lt-ltb _ _ (n .1)))))
+    ∙ sym (passed-by s (unassign (g .a .0) (g .b .0)) (passed-first (seat-role-checks (s .graph) (g .a .0) (g .b .0)) (refuse 23 (not (assigned s (g .a .0) (g .b .0))) (g .a .0) ∷ []) j told ∙ moves-on _ _ (ap not (ap (member _) (sym (m .before .entry .ensures)) ∙ sym (m .member .ensures) ∙ not-false _ (c .before .before .if1 .left))) ∙ sym ends))
 
 pub decide-unassign-spec : {M : Type 1} → statement M
 decide-unassign-spec =
@@ -112,8 +106,7 @@ decide-unassign-spec =
     refusal-requires
     unchanged-requires-2
     returns
-    single-requires
-    difference-requires
+    remove-requires
     none-requires
     returns-2
     returns-3)

@@ -1,11 +1,8 @@
--- `seats::deciding::judge_seat` meets its contract: each return is the check that it stands for.
+-- `seats::deciding::judge_seat` meets its contract: the seat's number is judged first, then the role.
 -- Assumes nothing.
-use borrow.Author.Needs.{needs}
-use borrow.Author.Tests.{lt-ltb, le-ltb, le-leb, lt-leb, not-true, not-false}
+use borrow.Author.Tests.{le-leb, lt-leb}
 use mathlib.Core.Path.{sym, _∙_}
-use Rattle.graph.specs.Graph.{is-end, present}
-use Rattle.graph.specs.Refusing.{verdict}
-use Rattle.graph.specs.Reading.{read-verdict}
+use Rattle.graph.proofs.Judging.{stops, moves-on}
 use Rattle.seats.proofs.deciding.judge_seat.Statement.{statement}
 use Rattle.seats.proofs.deciding.judge_seat.Tie as tie
 
@@ -13,52 +10,13 @@ refuse-requires : tie.Need-refuse-requires
 refuse-requires c κs = tt
 
 returns : tie.Need-returns
-unfolding verdict is-end present
-returns c = simp (le-leb 64 _ (c .before .if1 .taken)) (c .refuse .ensures)
+returns c = c .refuse .ensures ∙ sym (stops _ _ (le-leb 64 _ (c .before .if1 .taken)))
 
-refuse-requires-2 : tie.Need-refuse-requires-2
-refuse-requires-2 c κs = tt
+judge-role-requires : tie.Need-judge-role-requires
+judge-role-requires c κs = tt
 
 returns-2 : tie.Need-returns-2
-unfolding verdict is-end present
-returns-2 c = simp (lt-leb 64 _ (c .before .before .before .if1 .left), le-leb 64 _ (c .before .if2 .taken)) (c .refuse2 .ensures)
-
-refuse-requires-3 : tie.Need-refuse-requires-3
-refuse-requires-3 c κs = tt
-
-returns-3 : tie.Need-returns-3
-unfolding verdict is-end present
-returns-3 c = simp (lt-leb 64 _ (c .before .before .before .before .before .if1 .left), lt-leb 64 _ (c .before .before .before .if2 .left), lt-ltb _ 2 (c .before .if3 .taken)) (c .refuse3 .ensures)
-
-cast-r : tie.Need-cast-r
-cast-r c = search needs
-
-member-requires : tie.Need-member-requires
-member-requires c κs = tt
-
-refuse-requires-4 : tie.Need-refuse-requires-4
-refuse-requires-4 c κs = tt
-
-returns-4 : tie.Need-returns-4
-unfolding verdict is-end present
-returns-4 c = simp (lt-leb 64 _ (c .before .before .before .before .before .before .before .before .if1 .left), lt-leb 64 _ (c .before .before .before .before .before .before .if2 .left), le-ltb _ 2 (c .before .before .before .before .if3 .left), sym (c .before .before .member .ensures) ∙ not-true _ (c .before .if4 .taken)) (c .refuse4 .ensures)
-
-returns-5 : tie.Need-returns-5
-unfolding verdict is-end present read-verdict
-returns-5 c = simp (lt-leb 64 _ (c .before .before .before .before .before .before .before .if1 .left), lt-leb 64 _ (c .before .before .before .before .before .if2 .left), le-ltb _ 2 (c .before .before .before .if3 .left), sym (c .before .member .ensures) ∙ not-false _ (c .if4 .left))
+returns-2 c = c .judge-role .ensures ∙ sym (moves-on _ _ (lt-leb 64 _ (c .before .if1 .left)))
 
 pub judge-seat-spec : {M : Type 1} → statement M
-judge-seat-spec =
-    tie.close
-    (tie.spec
-    refuse-requires
-    returns
-    refuse-requires-2
-    returns-2
-    refuse-requires-3
-    returns-3
-    cast-r
-    member-requires
-    refuse-requires-4
-    returns-4
-    returns-5)
+judge-seat-spec = tie.close (tie.spec refuse-requires returns judge-role-requires returns-2)

@@ -1,6 +1,5 @@
 -- `seats::deciding::unchanged` meets its contract: no entry is stored.
 -- Assumes nothing.
-use borrow.Author.Needs.{needs}
 use mathlib.Core.List.{List}
 use mathlib.Core.Path.{ap₂}
 use Prim.Native.Nat.{ℕ}

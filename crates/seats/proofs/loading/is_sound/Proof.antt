@@ -26,10 +26,10 @@ none-twin : (c : tie.Else2) → any role-count (twin-role (state (c .before .bef
 unfolding ordinary effective twin-role
 none-twin c = place-none _ (c .before .twin-role .ensures) (c .if2 .left)
 
-none-pair : (c : tie.Else3) → any role-count (pair-role (state (c .before .before .before .before .before .before) .graph)) ≡ false
+none-pair : (c : tie.Else3) → any role-count (pair-role (state (c .before .before .before .before .before .before .before) .graph)) ≡ false
 none-pair c = place-none _ (c .before .pair-role .ensures) (c .if3 .left)
 
-none-seat : (c : tie.Else4) → any seat-count (pair-seat (state (c .before .before .before .before .before .before .before .before .before .before .before))) ≡ false
+none-seat : (c : tie.Else4) → any seat-count (pair-seat (state (c .before .before .before .before .before .before .before .before .before .before .before .before))) ≡ false
 unfolding pair-seat held assigned effective
 none-seat c = place-none _ (c .before .pair-seat .ensures) (c .if4 .left)
 
@@ -52,7 +52,7 @@ pair-role-requires c κs = search needs
 
 returns-3 : tie.Need-returns-3
 unfolding verdict content-checks
-returns-3 c = rw (none-empty (c .before .before .before .before), none-twin (c .before .before), place-found _ (c .before .pair-role .ensures) (c .if3 .taken))
+returns-3 c = rw (none-empty (c .before .before .before .before .before), none-twin (c .before .before .before), place-found _ (c .before .pair-role .ensures) (c .if3 .taken))
 
 pair-seat-requires : tie.Need-pair-seat-requires
 pair-seat-requires c κs = search needs
@@ -62,7 +62,7 @@ unfolding verdict content-checks pair-seat held assigned effective
 returns-4 c =
     let b = c .before .before .before .before .before in
     rw
-    (none-empty (b .before .before .before .before), none-twin (b .before .before), none-pair b, place-found _ (c .before .pair-seat .ensures) (c .if4 .taken))
+    (none-empty (b .before .before .before .before .before), none-twin (b .before .before .before), none-pair b, place-found _ (c .before .pair-seat .ensures) (c .if4 .taken))
 
 lacking-role-requires : tie.Need-lacking-role-requires
 lacking-role-requires c κs = search needs
@@ -73,7 +73,7 @@ returns-5 c =
     let d = c .before .before in
     let b = d .before .before .before .before .before in
     rw
-    (none-empty (b .before .before .before .before), none-twin (b .before .before), none-pair b, none-seat d, place-found _ (c .before .lacking-role .ensures) (c .if5 .taken))
+    (none-empty (b .before .before .before .before .before), none-twin (b .before .before .before), none-pair b, none-seat d, place-found _ (c .before .lacking-role .ensures) (c .if5 .taken))
 
 returns-6 : tie.Need-returns-6
 unfolding verdict content-checks ordinary effective
@@ -81,7 +81,7 @@ returns-6 c =
     let d = c .before .before in
     let b = d .before .before .before .before .before in
     rw
-    (none-empty (b .before .before .before .before), none-twin (b .before .before), none-pair b, none-seat d, place-none _ (c .before .lacking-role .ensures) (c .if5 .left))
+    (none-empty (b .before .before .before .before .before), none-twin (b .before .before .before), none-pair b, none-seat d, place-none _ (c .before .lacking-role .ensures) (c .if5 .left))
 
 pub is-sound-spec : {M : Type 1} → statement M
 is-sound-spec =

@@ -20,7 +20,7 @@ abbrev μ-loop : tie.MeasureT-loop
 μ-loop conflicts n₀ lower₀ n lower = 64 - lower
 
 loop-holds : tie.Need-loop-holds Inv-loop μ-loop
-loop-holds c = (search needs, let e = ap length (rows-all (c .args .conflicts .now)) in omega arith)
+loop-holds c = (search needs, let e = ap length (rows-all (c .before .args .conflicts .now)) in omega arith)
 
 row-requires : tie.Need-row-requires Inv-loop μ-loop
 row-requires c κs = search needs
@@ -28,16 +28,16 @@ row-requires c κs = search needs
 size-requires : tie.Need-size-requires Inv-loop μ-loop
 size-requires c κs = search needs
 
-counted : (c : tie.After-size Inv-loop μ-loop) → c .before .before .before .loop .n + c .size .result + length (rows-from (c .before .before .before .before .args .conflicts .now) (c .before .before .before .loop .lower + 1)) ≡ length (pair-entries (c .before .before .before .before .args .conflicts .now))
+counted : (c : tie.After-size Inv-loop μ-loop) → c .before .before .before .loop .n + c .size .result + length (rows-from (c .before .before .before .before .before .args .conflicts .now) (c .before .before .before .loop .lower + 1)) ≡ length (pair-entries (c .before .before .before .before .before .args .conflicts .now))
 counted c =
     let b = c .before .before .before in
-    rw (c .size .ensures) (rows-counted (b .before .args .conflicts .now) (b .loop .lower) (b .loop .n) (c .before .before .loop-test .taken) _ (c .before .row .ensures) (b .loop .inv .1))
+    rw (c .size .ensures) (rows-counted (b .before .before .args .conflicts .now) (b .loop .lower) (b .loop .n) (c .before .before .loop-test .taken) _ (c .before .row .ensures) (b .loop .inv .1))
 
 cast-more : tie.Need-cast-more Inv-loop μ-loop
 cast-more c = let l = size-bound (c .before .row .result) in let e = c .size .ensures in omega arith
 
 add-n : tie.Need-add-n Inv-loop μ-loop
-add-n c = let e = counted c in let l = conflicts-bound (graph-of 0 [] (c .before .before .before .before .args .conflicts .now)) in omega arith
+add-n c = let e = counted c in let l = conflicts-bound (graph-of 0 [] (c .before .before .before .before .before .args .conflicts .now)) in omega arith
 
 add-lower : tie.Need-add-lower Inv-loop μ-loop
 add-lower c = search needs
@@ -51,7 +51,7 @@ loop-again c = (search needs, counted c)
 returns : tie.Need-returns Inv-loop μ-loop
 returns c =
     let b = c .before in
-    let C = b .before .args .conflicts .now in
+    let C = b .before .before .args .conflicts .now in
     let z = ap length (rows-none C (b .loop .lower) (c .loop-test .left)) in
     let e = b .loop .inv .1 in
     let l = conflicts-bound (graph-of 0 [] C) in

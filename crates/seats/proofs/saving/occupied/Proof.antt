@@ -3,11 +3,10 @@
 use borrow.Author.Needs.{needs}
 use mathlib.Core.Bool.{Bool}
 use mathlib.Core.Path.{_≡_, refl, ap, ap₂, _∙_}
-use Prim.Native.Nat.{ℕ, _+_, _-_, _≤_, _<_}
+use Prim.Native.Nat.{ℕ, _+_, _-_, _≤_}
 use native.Mathlib.Numerals.{add-one}
 use native.Mathlib.Omega.{arith}
 use Rattle.sets.specs.Sets.{single, when, union, collect}
-use Rattle.graph.specs.Tables.{at}
 use Rattle.seats.proofs.Stores.{filled}
 use Rattle.seats.proofs.saving.occupied.Statement.{statement}
 use Rattle.seats.proofs.saving.occupied.Tie as tie
@@ -27,11 +26,8 @@ loop-holds : tie.Need-loop-holds Inv-loop μ-loop
 unfolding collect
 loop-holds c = (search needs, refl)
 
-mul-when : tie.Need-mul-when Inv-loop μ-loop
-mul-when c = search needs
-
-element-copy-out-when : tie.Need-element-copy-out-when Inv-loop μ-loop
-element-copy-out-when c = search needs
+entry-requires : tie.Need-entry-requires Inv-loop μ-loop
+entry-requires c κs = search needs
 
 only-requires : tie.Need-only-requires Inv-loop μ-loop
 only-requires c κs = search needs
@@ -49,16 +45,16 @@ loop-less : tie.Need-loop-less Inv-loop μ-loop
 loop-less c = search needs
 
 loop-again : tie.Need-loop-again Inv-loop μ-loop
-unfolding at
 loop-again c =
-    let b = c .before .before .before .before in
+    let e = c .before .before .before in
+    let b = e .before .before in
     let f = filled (b .before .before .args .seats .now) in
-    (search needs, grown f _ (b .before .loop .inv .1) (c .before .when .ensures ∙ ap (when (f (b .before .loop .i))) (c .before .before .only .ensures)) (c .union .ensures))
+    (search needs, grown f _ (b .loop .inv .1) (c .before .when .ensures ∙ rw (e .entry .ensures, c .before .before .only .ensures)) (c .union .ensures))
 
 returns : tie.Need-returns Inv-loop μ-loop
 returns c =
     let e : c .before .loop .i ≡ 64 = omega arith in
-    c .before .loop .inv .1 ∙ ap (λ (k : ℕ). collect k (filled (c .before .before .args .seats .now))) e
+    c .before .loop .inv .1 ∙ ap (λ (k : ℕ). collect k (filled (c .before .before .before .args .seats .now))) e
 
 pub occupied-spec : {M : Type 1} → statement M
 occupied-spec =
@@ -67,8 +63,7 @@ occupied-spec =
     Inv-loop
     μ-loop
     loop-holds
-    mul-when
-    element-copy-out-when
+    entry-requires
     only-requires
     when-requires
     union-requires

@@ -16,7 +16,7 @@ abbrev μ-loop : tie.MeasureT-loop
 μ-loop buffer₀ at conflicts place₀ lower₀ buffer place lower = 64 - lower
 
 loop-holds : tie.Need-loop-holds Inv-loop μ-loop
-loop-holds c = (search needs, rw (rows-all (c .before .args .conflicts .now)) (writing-start _ _ _ (c .before .pre)))
+loop-holds c = (search needs, rw (rows-all (c .before .before .args .conflicts .now)) (writing-start _ _ _ (c .before .before .pre)))
 
 cast-row : tie.Need-cast-row Inv-loop μ-loop
 cast-row c = search needs
@@ -27,7 +27,7 @@ row-requires c κs = search needs
 put-row-requires : tie.Need-put-row-requires Inv-loop μ-loop
 put-row-requires c κs =
     let b = c .before .before in
-    row-room (b .before .before .before .args .conflicts .now) (b .before .loop .lower) (b .loop-test .taken) (c .before .row .ensures) (b .before .loop .inv .1)
+    row-room (b .before .before .before .before .args .conflicts .now) (b .before .loop .lower) (b .loop-test .taken) (c .before .row .ensures) (b .before .loop .inv .1)
 
 add-lower : tie.Need-add-lower Inv-loop μ-loop
 add-lower c = search needs
@@ -40,14 +40,14 @@ loop-again c =
     let p = c .before .before in
     let b = p .before .before .before in (
       search needs,
-      row-written (b .before .before .before .args .conflicts .now) (b .before .loop .lower) (b .loop-test .taken) (p .before .before .row .ensures) (b .before .loop .inv .1) (p .put-row .ensures),
+      row-written (b .before .before .before .before .args .conflicts .now) (b .before .loop .lower) (b .loop-test .taken) (p .before .before .row .ensures) (b .before .loop .inv .1) (p .put-row .ensures),
     )
 
 same-length : tie.Need-same-length Inv-loop μ-loop
 same-length c = writing-length (c .before .loop .inv .1)
 
 returns : tie.Need-returns Inv-loop μ-loop
-returns c = rows-written (c .before .before .before .args .conflicts .now) (c .before .loop .lower) (c .loop-test .left) (c .before .loop .inv .1)
+returns c = rows-written (c .before .before .before .before .args .conflicts .now) (c .before .loop .lower) (c .loop-test .left) (c .before .loop .inv .1)
 
 pub put-conflicts-spec : {M : Type 1} → statement M
 put-conflicts-spec =

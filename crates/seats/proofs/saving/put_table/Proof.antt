@@ -19,7 +19,7 @@ abbrev μ-loop : tie.MeasureT-loop
 μ-loop buffer₀ place₀ keys table at₀ rest₀ buffer place rest = rest
 
 loop-holds : tie.Need-loop-holds Inv-loop μ-loop
-loop-holds c = (search needs, writing-start _ _ _ (c .before .pre))
+loop-holds c = (search needs, writing-start _ _ _ (c .before .before .pre))
 
 lowest-member-requires : tie.Need-lowest-member-requires Inv-loop μ-loop
 lowest-member-requires c κs = search needs
@@ -33,16 +33,13 @@ cast-i c = search needs
 cast-put-entry : tie.Need-cast-put-entry Inv-loop μ-loop
 cast-put-entry c = let l = key-lt (c .before) in search needs
 
-mul-put-entry : tie.Need-mul-put-entry Inv-loop μ-loop
-mul-put-entry c = search needs
-
-element-copy-out-put-entry : tie.Need-element-copy-out-put-entry Inv-loop μ-loop
-element-copy-out-put-entry c = key-lt (c .before)
+entry-requires : tie.Need-entry-requires Inv-loop μ-loop
+entry-requires c κs = search needs
 
 put-entry-requires : tie.Need-put-entry-requires Inv-loop μ-loop
 put-entry-requires c κs =
     let b = c .before .before in
-    member-room 8 (valued (at (b .before .before .before .before .args .table .now))) (b .before .before .loop .inv .0) (b .before .loop-test .taken) (b .lowest-member .ensures) (b .before .before .loop .inv .1)
+    member-room 8 (valued (at (b .before .before .before .before .before .args .table .now))) (b .before .before .loop .inv .0) (b .before .loop-test .taken) (b .lowest-member .ensures) (b .before .before .loop .inv .1)
 
 without-lowest-requires : tie.Need-without-lowest-requires Inv-loop μ-loop
 without-lowest-requires c κs = search needs
@@ -53,12 +50,12 @@ loop-less c =
     rw (c .without-lowest .ensures) (next-falls 64 _ (b .before .before .loop .inv .0) (b .before .loop-test .taken))
 
 loop-again : tie.Need-loop-again Inv-loop μ-loop
-unfolding at
 loop-again c =
-    let b = c .before .before .before .before .before .before in (
+    let e = c .before .before .before .before in
+    let b = e .before .before in (
       rw (c .without-lowest .ensures) (next-lt 64 _ (b .before .before .loop .inv .0)),
-      member-written 8 (valued (at (b .before .before .before .before .args .table .now))) (b .before .before .loop .inv .0) (b .before .loop-test .taken) (b .lowest-member .ensures) (b .before .before .loop .inv .1)
-          (c .without-lowest .ensures) (c .before .before .before .put-entry .ensures),
+      member-written 8 (valued (at (b .before .before .before .before .before .args .table .now))) (b .before .before .loop .inv .0) (b .before .loop-test .taken) (b .lowest-member .ensures) (b .before .before .loop .inv .1)
+          (c .without-lowest .ensures) (rw (e .entry .ensures) at (c .before .before .before .put-entry .ensures)),
     )
 
 same-length : tie.Need-same-length Inv-loop μ-loop
@@ -77,8 +74,7 @@ put-table-spec =
     lowest-member-requires
     cast-i
     cast-put-entry
-    mul-put-entry
-    element-copy-out-put-entry
+    entry-requires
     put-entry-requires
     without-lowest-requires
     loop-less

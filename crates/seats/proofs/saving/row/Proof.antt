@@ -65,27 +65,23 @@ only-requires : tie.Need-only-requires
 only-requires c κs = search needs
 
 sub-union : tie.Need-sub-union
-sub-union c = let e = c .only .ensures ∙ alone _ in let p = pow-pos (c .before .args .lower) in omega arith
+sub-union c = let e = c .only .ensures ∙ alone _ in let p = pow-pos (c .before .before .args .lower) in omega arith
 
 union-requires : tie.Need-union-requires
 union-requires c κs = search needs
 
-mul-difference : tie.Need-mul-difference
-mul-difference c = search needs
-
-element-copy-out-difference : tie.Need-element-copy-out-difference
-element-copy-out-difference c = search needs
+entry-requires : tie.Need-entry-requires
+entry-requires c κs = search needs
 
 difference-requires : tie.Need-difference-requires
 difference-requires c κs = search needs
 
 returns : tie.Need-returns
-unfolding at
 returns c =
     let b = c .before .before in
-    let s = b .before .before in
+    let s = b .before .before .before in
     let e = b .before .only .ensures ∙ alone _ in
-    higher (s .args .conflicts .now) (s .args .lower) _ (search needs) (c .difference .ensures ∙ rw (b .union .ensures, e))
+    higher (s .args .conflicts .now) (s .args .lower) _ (search needs) (c .difference .ensures ∙ rw (c .before .entry .ensures, b .union .ensures, e))
 
 pub row-spec : {M : Type 1} → statement M
 row-spec =
@@ -94,7 +90,6 @@ row-spec =
     only-requires
     sub-union
     union-requires
-    mul-difference
-    element-copy-out-difference
+    entry-requires
     difference-requires
     returns)

@@ -24,7 +24,7 @@ abbrev state : tie.Start → State
 state c = record { graph = graph-of (c .args .roles) (c .args .sets .now) (c .args .conflicts .now); seats = c .args .seats .now }
 
 abbrev entered : tie.After-distance → tie.Start
-entered c = c .before .before .before .before .before .before .before
+entered c = c .before .before .before .before .before .before .before .before .before .before
 
 abbrev roles-part : tie.After-distance → List ℕ
 roles-part c = entry-bytes 8 (table-entries (c .before .before .before .before .before .difference .result) (entered c .args .sets .now))
@@ -69,8 +69,7 @@ starts : (c : tie.Else1) → Wrote-so-far (c .before) (entered (c .before) .args
 starts c = saving-starts (counted (c .before)) _ (c .if1 .left)
 
 top-written : (c : tie.After-put-number) → Wrote-so-far (top-counted c) (c .put-number .last .0) (c .put-number .result) (roles-part (top-counted c) ++ (conflicts-part (top-counted c) ++ (seats-part (top-counted c) ++ trailer-part (top-counted c))))
-unfolding at
-top-written c = writing-next (bytes-of 8 (at (entered (top-counted c) .args .sets .now) 1)) _ (starts (c .before .before .before)) (c .put-number .ensures)
+top-written c = writing-next (bytes-of 8 (at (entered (top-counted c) .args .sets .now) 1)) _ (starts (c .before .before .before)) (rw (c .before .entry .ensures) at (c .put-number .ensures))
 
 roles-written : (c : tie.After-put-table) → Wrote-so-far (roles-counted c) (c .put-table .last .0) (c .put-table .result) (conflicts-part (roles-counted c) ++ (seats-part (roles-counted c) ++ trailer-part (roles-counted c)))
 roles-written c = writing-next (roles-part (roles-counted c)) _ (top-written (c .before .before .before .before)) (c .put-table .ensures)
@@ -118,8 +117,8 @@ returns : tie.Need-returns
 unfolding read-filled
 returns c = saves-nothing (counted (c .before)) _ (c .if1 .taken)
 
-element-copy-out-put-number : tie.Need-element-copy-out-put-number
-element-copy-out-put-number c = search needs
+entry-requires : tie.Need-entry-requires
+entry-requires c κs = search needs
 
 put-number-requires : tie.Need-put-number-requires
 put-number-requires c κs =
@@ -170,7 +169,7 @@ save-spec =
     count-conflicts-requires
     distance-requires
     returns
-    element-copy-out-put-number
+    entry-requires
     put-number-requires
     put-table-requires
     put-conflicts-requires

@@ -4,7 +4,7 @@ use borrow.Author.Needs.{needs}
 use mathlib.Core.Path.{ap, _∙_}
 use Rattle.sets.specs.Sets.{union}
 use Rattle.graph.specs.Tables.{at}
-use Rattle.graph.proofs.Loops.{left-lowest, left-falls, Gathering, gathering-none, gathering-next, gathering-done}
+use Rattle.graph.proofs.Loops.{left-falls, Gathering, gathering-none, gathering-next, gathering-done}
 use Rattle.seats.proofs.searches.joined.Statement.{statement}
 use Rattle.seats.proofs.searches.joined.Tie as tie
 

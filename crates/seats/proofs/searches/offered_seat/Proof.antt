@@ -1,13 +1,16 @@
--- `seats::searches::offered_seat` meets its contract: it goes through the seats from 0 on.
+-- `seats::searches::offered_seat` meets its contract: it goes through the seats from 0 on, and one without roles holds no pair.
 -- Assumes nothing.
 use borrow.Author.Needs.{needs}
 use mathlib.Core.Bool.{Bool}
 use mathlib.Core.List.{List, []}
+use mathlib.Core.Logic.{inl, inr}
 use mathlib.Core.Path.{sym, ap, _∙_}
 use Prim.Native.Nat.{ℕ, _-_}
+use Rattle.graph.specs.Graph.{effective}
 use Rattle.graph.specs.Conflicts.{holds-both}
-use Rattle.seats.specs.Seats.{seat-count, offered-seat}
+use Rattle.seats.specs.Seats.{seat-count, assigned, held, offered-seat}
 use Rattle.seats.specs.Reading.{state-of}
+use Rattle.seats.proofs.Requests.{joint, none-both}
 use Rattle.seats.proofs.Scanning.{Scanned, scanned-none, scanned-next, scanned-hit, scanned-miss}
 use Rattle.seats.proofs.searches.offered_seat.Statement.{statement}
 use Rattle.seats.proofs.searches.offered_seat.Tie as tie
@@ -25,17 +28,25 @@ abbrev μ-loop : tie.MeasureT-loop
 loop-holds : tie.Need-loop-holds Inv-loop μ-loop
 loop-holds c = scanned-none _ seat-count
 
-held-by-requires : tie.Need-held-by-requires Inv-loop μ-loop
-held-by-requires c κs = tt
+cast-entry : tie.Need-cast-entry Inv-loop μ-loop
+cast-entry c = search needs
+
+entry-requires : tie.Need-entry-requires Inv-loop μ-loop
+entry-requires c κs = tt
+
+joined-requires : tie.Need-joined-requires Inv-loop μ-loop
+joined-requires c κs = tt
 
 holds-both-requires : tie.Need-holds-both-requires Inv-loop μ-loop
 holds-both-requires c κs = tt
 
 returns : tie.Need-returns Inv-loop μ-loop
-unfolding offered-seat
+unfolding offered-seat held assigned effective
 returns c =
-    let t = c .before .before .before in
-    scanned-hit (t .before .loop .inv) (t .loop-test .taken) (ap (holds-both _ _) (sym (c .before .before .held-by .ensures 0 [])) ∙ sym (c .before .holds-both .ensures) ∙ c .if1 .taken)
+    let o = c .before .before .before .before in
+    let t = o .before in
+    scanned-hit (t .before .loop .inv) (t .loop-test .taken)
+    (ap (holds-both _ _) (ap (joint _) (sym (o .entry .ensures)) ∙ sym (c .before .before .joined .ensures)) ∙ sym (c .before .holds-both .ensures) ∙ c .if2 .taken)
 
 add-i : tie.Need-add-i Inv-loop μ-loop
 add-i c = search needs
@@ -44,10 +55,16 @@ loop-less : tie.Need-loop-less Inv-loop μ-loop
 loop-less c = search needs
 
 loop-again : tie.Need-loop-again Inv-loop μ-loop
-unfolding offered-seat
+unfolding offered-seat held assigned effective
 loop-again c =
-    let t = c .before .before .before in
-    scanned-next (t .before .loop .inv) (t .loop-test .taken) (ap (holds-both _ _) (sym (c .before .before .held-by .ensures 0 [])) ∙ sym (c .before .holds-both .ensures) ∙ c .if1 .left)
+    let o = c .before in
+    let t = o .before in
+    let g = t .before .before .before .before .args in
+    scanned-next (t .before .loop .inv) (t .loop-test .taken)
+    (elim (c .if1 .came) [
+      | inl (_, j, h, f) ↦ ap (holds-both _ _) (ap (joint _) (sym (o .entry .ensures)) ∙ sym (j .ensures)) ∙ sym (h .ensures) ∙ f .left
+      | inr e ↦ ap (λ (own : ℕ). holds-both (g .a .0) (g .b .0) (joint (g .sets .now) own)) (sym (o .entry .ensures) ∙ e .left) ∙ none-both _ _ _
+    ])
 
 returns-2 : tie.Need-returns-2 Inv-loop μ-loop
 returns-2 c = scanned-miss (c .before .loop .inv) (c .loop-test .left)
@@ -59,7 +76,9 @@ offered-seat-spec =
     Inv-loop
     μ-loop
     loop-holds
-    held-by-requires
+    cast-entry
+    entry-requires
+    joined-requires
     holds-both-requires
     returns
     add-i

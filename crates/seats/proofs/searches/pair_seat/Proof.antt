@@ -1,6 +1,5 @@
 -- `seats::searches::pair_seat` meets its contract: it is the search with nothing added.
 -- Assumes nothing.
-use borrow.Author.Needs.{needs}
 use mathlib.Core.Path.{ap, _∙_}
 use Rattle.sets.proofs.Counting.{lowest-cong}
 use Rattle.graph.specs.Graph.{effective}

@@ -12,18 +12,18 @@ use Rattle.graph.specs.Tables.{at}
 use Rattle.graph.specs.Graph.{effective}
 use Rattle.graph.specs.Conflicts.{holds-pair}
 use Rattle.seats.specs.Seats.{seat-count, assigned, held, pair-seat}
-use Rattle.seats.proofs.Requests.{joint, joint-put}
+use Rattle.seats.proofs.Requests.{empty-union, joint, joint-put}
 use Rattle.seats.proofs.searches.pair_seat_after.Statement.{statement}
 use Rattle.seats.proofs.searches.pair_seat_after.Tie as tie
 
 cast-i : tie.Need-cast-i
 cast-i c = search needs
 
-cast-single : tie.Need-cast-single
-cast-single c = search needs
+cast-insert : tie.Need-cast-insert
+cast-insert c = search needs
 
-single-requires : tie.Need-single-requires
-single-requires c κs = tt
+insert-requires : tie.Need-insert-requires
+insert-requires c κs = tt
 
 when-requires : tie.Need-when-requires
 when-requires c κs = tt
@@ -37,10 +37,10 @@ returns c =
     let g = c .before .before .before .before .before .before .before .before .args in
     c .pair-seat-with .ensures
     ∙ ap (λ (added : ℕ). lowest seat-count (λ i. holds-pair (g .conflicts .now) (joint (g .sets .now) (union (at (g .seats .now) i) (when (eqb i (g .a .0)) added)))))
-    (c .before .when .ensures ∙ ap (when (ltb (g .a .0) (length (g .seats .now)))) (c .before .before .single .ensures))
+    (c .before .when .ensures ∙ ap (when (ltb (g .a .0) (length (g .seats .now)))) (c .before .before .insert .ensures ∙ empty-union _))
     ∙ lowest-cong seat-count _ _ (λ i h. ap (holds-pair (g .conflicts .now)) (joint-put (g .sets .now) (g .seats .now) (g .a .0) (g .b .0) i))
 
 pub pair-seat-after-spec : {M : Type 1} → statement M
 pair-seat-after-spec =
     tie.close
-    (tie.spec cast-i cast-single single-requires when-requires pair-seat-with-requires returns)
+    (tie.spec cast-i cast-insert insert-requires when-requires pair-seat-with-requires returns)

@@ -1,23 +1,20 @@
--- `seats::searches::pair_seat_with` meets its contract: it goes through the seats from 0 on.
+-- `seats::searches::pair_seat_with` meets its contract: it goes through the seats from 0 on, and one without roles holds no pair.
 -- Assumes nothing.
 use borrow.Author.Needs.{needs}
 use mathlib.Core.Bool.{Bool}
 use mathlib.Core.List.{List}
+use mathlib.Core.Logic.{inl, inr}
 use mathlib.Core.Path.{_≡_, sym, ap, ap₂, _∙_}
 use Prim.Native.Nat.{ℕ, _-_}
 use lib.Dec.{eqb}
-use Rattle.sets.specs.Sets.{member, union, when, gather}
+use Rattle.sets.specs.Sets.{union, when}
 use Rattle.graph.specs.Tables.{at}
-use Rattle.graph.specs.Graph.{role-count}
 use Rattle.graph.specs.Conflicts.{holds-pair}
 use Rattle.seats.specs.Seats.{seat-count}
+use Rattle.seats.proofs.Requests.{joint, none-pair}
 use Rattle.seats.proofs.Scanning.{Scanned, scanned-none, scanned-next, scanned-hit, scanned-miss}
 use Rattle.seats.proofs.searches.pair_seat_with.Statement.{statement}
 use Rattle.seats.proofs.searches.pair_seat_with.Tie as tie
-
--- What these roles hold.
-abbrev joint : List ℕ → ℕ → ℕ
-joint sets roles = gather role-count (λ r. member r roles) (at sets)
 
 -- Seat i holds a declared pair, with these roles added to seat a.
 abbrev pairs : List ℕ → List ℕ → List ℕ → ℕ → ℕ → ℕ → Bool
@@ -50,24 +47,19 @@ joined-requires c κs = tt
 holds-pair-requires : tie.Need-holds-pair-requires Inv-loop μ-loop
 holds-pair-requires c κs = tt
 
--- The test of the turn is the seat's.
-tested : (c : tie.After-holds-pair Inv-loop μ-loop) →
-    let j = c .before in
-    let t = j .before .before .before .before in
+-- The roles of the turn's seat, with those added.
+owned : (c : tie.After-union Inv-loop μ-loop) →
+    let t = c .before .before .before in
     let g = t .before .before .before .before .before .args in
-    c .holds-pair .result ≡ pairs (g .sets .now) (g .conflicts .now) (g .seats .now) (g .a) (g .added) (t .before .loop .i)
-tested c =
-    let j = c .before in
-    let t = j .before .before .before .before in
-    let g = t .before .before .before .before .before .args in
-    c .holds-pair .ensures
-    ∙ ap (holds-pair (g .conflicts .now)) (j .joined .ensures
-    ∙ ap (joint (g .sets .now)) (j .before .union .ensures ∙ ap₂ union (j .before .before .before .entry .ensures) (j .before .before .when .ensures)))
+    c .union .result ≡ union (at (g .seats .now) (t .before .loop .i)) (when (eqb (t .before .loop .i) (g .a)) (g .added))
+owned c = c .union .ensures ∙ ap₂ union (c .before .before .entry .ensures) (c .before .when .ensures)
 
 returns : tie.Need-returns Inv-loop μ-loop
 returns c =
-    let t = c .before .before .before .before .before .before in
-    scanned-hit (t .before .loop .inv) (t .loop-test .taken) (sym (tested (c .before)) ∙ c .if1 .taken)
+    let u = c .before .before .before .before in
+    let t = u .before .before .before in
+    scanned-hit (t .before .loop .inv) (t .loop-test .taken)
+    (ap (holds-pair _) (ap (joint _) (sym (owned u)) ∙ sym (c .before .before .joined .ensures)) ∙ sym (c .before .holds-pair .ensures) ∙ c .if2 .taken)
 
 add-i : tie.Need-add-i Inv-loop μ-loop
 add-i c = search needs
@@ -77,8 +69,14 @@ loop-less c = search needs
 
 loop-again : tie.Need-loop-again Inv-loop μ-loop
 loop-again c =
-    let t = c .before .before .before .before .before .before in
-    scanned-next (t .before .loop .inv) (t .loop-test .taken) (sym (tested (c .before)) ∙ c .if1 .left)
+    let u = c .before in
+    let t = u .before .before .before in
+    let g = t .before .before .before .before .before .args in
+    scanned-next (t .before .loop .inv) (t .loop-test .taken)
+    (elim (c .if1 .came) [
+      | inl (_, j, h, f) ↦ ap (holds-pair _) (ap (joint _) (sym (owned u)) ∙ sym (j .ensures)) ∙ sym (h .ensures) ∙ f .left
+      | inr e ↦ ap (λ (roles : ℕ). holds-pair (g .conflicts .now) (joint (g .sets .now) roles)) (sym (owned u) ∙ e .left) ∙ none-pair _ _
+    ])
 
 returns-2 : tie.Need-returns-2 Inv-loop μ-loop
 returns-2 c = scanned-miss (c .before .loop .inv) (c .loop-test .left)

@@ -1,6 +1,5 @@
 -- `seats::searches::refusal` meets its contract: the answer is the refusal.
 -- Assumes nothing.
-use borrow.Author.Needs.{needs}
 use mathlib.Core.Path.{refl}
 use Rattle.seats.specs.Reading.{read-answer}
 use Rattle.seats.proofs.searches.refusal.Statement.{statement}

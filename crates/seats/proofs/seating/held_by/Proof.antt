@@ -1,6 +1,5 @@
 -- `seats::seating::held_by` meets its contract: the sets of the seat's roles are joined.
 -- Assumes nothing.
-use borrow.Author.Needs.{needs}
 use mathlib.Core.Path.{ap, _∙_}
 use Prim.Native.Nat.{ℕ}
 use Rattle.sets.specs.Sets.{member, gather}

@@ -1,17 +1,15 @@
 -- `seats::stepping::changed` meets its contract: a refusal before or after closing leaves the roles and sets, and what passes has those after the change.
 -- Assumes nothing.
 use borrow.Author.Needs.{needs}
-use mathlib.Core.List.{List, _++_}
-use mathlib.Core.Path.{_≡_, sym, ap, ap₂, _∙_}
-use Prim.Native.Nat.{ℕ}
+use mathlib.Core.List.{_++_}
+use mathlib.Core.Path.{_≡_, sym, ap, _∙_}
 use Rattle.graph.specs.Graph.{Graph}
 use Rattle.graph.specs.Refusing.{verdict}
 use Rattle.graph.specs.Reading.{graph-of, read-verdict, read-change}
 use Rattle.graph.proofs.Judging.{refused-first, passed-first}
-use Rattle.graph.proofs.Attempts.{first, attempt-refused, after-passed}
-use Rattle.seats.specs.Seats.{State}
-use Rattle.seats.specs.Calls.{Answer, accepted, with-graph, after}
-use Rattle.seats.specs.Reading.{state-of, read-answer}
+use Rattle.graph.proofs.Attempts.{first, after-passed}
+use Rattle.seats.specs.Calls.{accepted, with-graph, after}
+use Rattle.seats.specs.Reading.{state-of, read-answer, outcome}
 use Rattle.seats.specs.Working.{after-checks}
 use Rattle.seats.proofs.Changing.{before-checks, next, settled-refused, settled-passed}
 use Rattle.seats.proofs.stepping.changed.Statement.{statement}
@@ -41,54 +39,63 @@ refused-requires-2 c κs = tt
 enum-told-2 : tie.Need-enum-told-2
 enum-told-2 c = search needs
 
+-- What the attempt makes is the graph after the change.
+moved : (j : tie.After-judge-after) → (
+    let g = j .before .before .before .before .before .before .before .before .before .args in
+    let a = j .before .before .before .before .before .attempt .result in
+    graph-of (a .roles) (a .sets) (g .conflicts .now) ≡ next (state-of (g .roles) (g .sets .now) (g .conflicts .now) (g .seats .now)) (read-change (g .edit)) .graph)
+unfolding after with-graph
+moved j =
+    let g = j .before .before .before .before .before .before .before .before .before .args in
+    let a = j .before .before .before .before .before .attempt in
+    after-passed (g .roles) (g .sets .now) (g .conflicts .now) (read-change (g .edit)) (a .result) (a .ensures) (j .before .before .enum-told .given .1)
+
+-- Where the attempt refuses nothing, the checks after closing decide.
+decided : (j : tie.After-judge-after) → (
+    let g = j .before .before .before .before .before .before .before .before .before .args in
+    let s = state-of (g .roles) (g .sets .now) (g .conflicts .now) (g .seats .now) in
+    let d = read-change (g .edit) in
+    verdict (before-checks s d ++ after-checks (next s d) d) ≡ read-verdict (j .judge-after .result))
+unfolding after with-graph
+decided j =
+    let g = j .before .before .before .before .before .before .before .before .before .args in
+    let s = state-of (g .roles) (g .sets .now) (g .conflicts .now) (g .seats .now) in
+    let d = read-change (g .edit) in
+    let a = j .before .before .before .before .before .attempt in
+    passed-first (before-checks s d) (after-checks (next s d) d) (first (g .roles) (g .sets .now) (g .conflicts .now) d (a .result) (a .ensures)) (j .before .before .enum-told .given .1)
+    ∙ sym (j .judge-after .ensures ∙ ap (λ (h : Graph). verdict (after-checks (record { graph = h; seats = g .seats .now }) d)) (moved j))
+
 returns : tie.Need-returns
 unfolding read-verdict
 returns c =
-    let g = c .before .before .before .before .before .before .args in
+    let g = c .before .before .before .before .before .before .before .before .before .args in
     let s = state-of (g .roles) (g .sets .now) (g .conflicts .now) (g .seats .now) in
     let d = read-change (g .edit) in
     let a = c .before .before .before .before .before .attempt in
     let told = c .before .before .before2 .given .1 in
-    let e = c .refused .ensures in
-    let same = attempt-refused (g .roles) (g .sets .now) (g .conflicts .now) d (a .result) (a .ensures) told in
-    ap₂ (λ (x : Answer) (h : Graph). (x, state-of (h .roles) (h .sets) (g .conflicts .now) (g .seats .now))) (e .0)
-    (ap₂ (λ (r : ℕ) (l : List ℕ). graph-of r l (g .conflicts .now)) (e .1 ∙ ap Graph.roles same) (e .2 ∙ ap Graph.sets same))
+    c .refused .ensures s
     ∙ sym (settled-refused s d (before-checks s d ++ after-checks (next s d) d)
     (sym (refused-first (before-checks s d) (after-checks (next s d) d) (first (g .roles) (g .sets .now) (g .conflicts .now) d (a .result) (a .ensures)) told) ∙ ap read-verdict told))
 
 returns-2 : tie.Need-returns-2
-unfolding read-verdict after with-graph
+unfolding read-verdict
 returns-2 c =
-    let g = c .before .before .before .before .before .before .before .before .before .before .before .args in
+    let j = c .before .before .before .before in
+    let g = j .before .before .before .before .before .before .before .before .before .args in
     let s = state-of (g .roles) (g .sets .now) (g .conflicts .now) (g .seats .now) in
     let d = read-change (g .edit) in
-    let j = c .before .before .before .before .before in
-    let a = j .before .before .before .before .before .attempt in
-    let passed-told = j .before .before .enum-told .given .1 in
-    let told = c .before .before .before .after .given .1 in
-    let e = c .refused2 .ensures in
-    let moved = after-passed (g .roles) (g .sets .now) (g .conflicts .now) d (a .result) (a .ensures) passed-told in
-    ap₂ (λ (x : Answer) (h : Graph). (x, state-of (h .roles) (h .sets) (g .conflicts .now) (g .seats .now))) (e .0)
-    (ap₂ (λ (r : ℕ) (l : List ℕ). graph-of r l (g .conflicts .now)) (e .1) (e .2))
-    ∙ sym (settled-refused s d (before-checks s d ++ after-checks (next s d) d)
-    (passed-first (before-checks s d) (after-checks (next s d) d) (first (g .roles) (g .sets .now) (g .conflicts .now) d (a .result) (a .ensures)) passed-told
-    ∙ ap (λ (h : Graph). verdict (after-checks (record { graph = h; seats = g .seats .now }) d)) (sym moved) ∙ sym (j .judge-after .ensures) ∙ ap read-verdict told))
+    c .refused2 .ensures s
+    ∙ sym (settled-refused s d (before-checks s d ++ after-checks (next s d) d) (decided j ∙ ap read-verdict (c .before .before .after .given .1)))
 
 returns-3 : tie.Need-returns-3
-unfolding read-verdict read-answer after with-graph
+unfolding read-verdict read-answer outcome after with-graph
 returns-3 c =
-    let g = c .before .before .before .before .before .before .before .before .args in
+    let j = c .before .before in
+    let g = j .before .before .before .before .before .before .before .before .before .args in
     let s = state-of (g .roles) (g .sets .now) (g .conflicts .now) (g .seats .now) in
     let d = read-change (g .edit) in
-    let j = c .before .before in
-    let a = j .before .before .before .before .before .attempt in
-    let passed-told = j .before .before .enum-told .given .1 in
-    let told = c .enum-told2 .given .1 in
-    let moved = after-passed (g .roles) (g .sets .now) (g .conflicts .now) d (a .result) (a .ensures) passed-told in
-    ap (λ (h : Graph). (accepted, record { graph = h; seats = g .seats .now })) moved
-    ∙ sym (settled-passed s d (before-checks s d ++ after-checks (next s d) d)
-    (passed-first (before-checks s d) (after-checks (next s d) d) (first (g .roles) (g .sets .now) (g .conflicts .now) d (a .result) (a .ensures)) passed-told
-    ∙ ap (λ (h : Graph). verdict (after-checks (record { graph = h; seats = g .seats .now }) d)) (sym moved) ∙ sym (j .judge-after .ensures) ∙ ap read-verdict told))
+    ap (λ (h : Graph). (accepted, record { graph = h; seats = g .seats .now })) (moved j)
+    ∙ sym (settled-passed s d (before-checks s d ++ after-checks (next s d) d) (decided j ∙ ap read-verdict (c .enum-told2 .given .1)))
 
 pub changed-spec : {M : Type 1} → statement M
 changed-spec =

@@ -29,7 +29,7 @@ returns : tie.Need-returns
 unfolding pair-seat held assigned effective
 returns c =
     let q = c .before .before in
-    let t = q .before .before .before .before in
+    let t = q .before .before in
     c .refuse .ensures ∙ ap (refused 30) (q .pair-seat .ensures)
     ∙ sym (passed-first _ _ (t .before .before .judge-closed .ensures) (t .enum-told2 .given .1) ∙ stops _ _ (place-found _ (q .pair-seat .ensures) (c .before .if1 .taken)))
 
@@ -40,7 +40,7 @@ returns-3 : tie.Need-returns-3
 unfolding pair-seat held assigned effective read-verdict
 returns-3 c =
     let q = c .before in
-    let t = q .before .before .before .before in
+    let t = q .before .before in
     let told = t .enum-told2 .given .1 in
     ap read-verdict told ∙ ends
     ∙ sym (passed-first _ _ (t .before .before .judge-closed .ensures) told ∙ moves-on _ _ (place-none _ (q .pair-seat .ensures) (c .if1 .left)))

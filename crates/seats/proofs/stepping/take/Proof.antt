@@ -2,7 +2,6 @@
 -- Assumes nothing.
 use borrow.Author.Needs.{needs}
 use mathlib.Core.Path.{sym, ap, _∙_}
-use Rattle.seats.specs.Seats.{State}
 use Rattle.seats.specs.Calls.{Answer, perform}
 use Rattle.seats.specs.Records.{perform-decoded, step}
 use Rattle.seats.specs.Reading.{state-of, read-call, read-decoded}

@@ -1,6 +1,5 @@
 -- `seats::stepping::take_request` meets its contract: the entries that the decision changes are stored.
 -- Assumes nothing.
-use borrow.Author.Needs.{needs}
 use mathlib.Core.List.{List}
 use mathlib.Core.Path.{ap₂, _∙_}
 use Prim.Native.Nat.{ℕ}

@@ -2,9 +2,8 @@
 -- The measure is the bytes left.
 -- Assumes nothing.
 use borrow.Author.Needs.{needs}
-use mathlib.Core.List.{List}
-use mathlib.Core.Path.{_≡_, sym, ap, _∙_}
-use Prim.Native.Nat.{ℕ, _-_, _<_}
+use mathlib.Core.Path.{sym, ap, _∙_}
+use Prim.Native.Nat.{_-_, _<_}
 use native.Mathlib.Omega.{arith}
 use lib.ListN.{length}
 use Rattle.seats.specs.Records.{step}

@@ -6,7 +6,6 @@ use native.Mathlib.Omega.{arith}
 use mathlib.Core.List.{[]}
 use Rattle.seats.specs.Tape.{digits}
 use Rattle.seats.specs.Reading.{read-answer}
-use Rattle.seats.specs.Working.{Put}
 use Rattle.seats.proofs.Digits.{width-word, width-byte}
 use Rattle.seats.proofs.Putting.{and-then, line-joined, length-joined}
 use Rattle.seats.proofs.text.put_line.Statement.{statement}

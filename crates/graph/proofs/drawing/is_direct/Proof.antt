@@ -1,0 +1,46 @@
+-- `graph::drawing::is_direct` meets its contract: a privilege is direct in s where s has it and no immediate junior does.
+-- Assumes nothing.
+use borrow.Author.Needs.{needs}
+use borrow.Author.Tests.{not-true, not-false}
+use Rattle.graph.proofs.Drawings.{direct-member}
+use Rattle.graph.proofs.drawing.is_direct.Statement.{statement}
+use Rattle.graph.proofs.drawing.is_direct.Tie as tie
+
+cast-p : tie.Need-cast-p
+cast-p c = search needs
+
+effective-of-requires : tie.Need-effective-of-requires
+effective-of-requires c κs = tt
+
+member-requires : tie.Need-member-requires
+member-requires c κs = tt
+
+returns : tie.Need-returns
+returns c = rw (direct-member, ← c .before .before .effective-of .ensures, ← c .before .member .ensures, not-true (c .before .member .result) (c .if1 .taken))
+
+cast-inherited : tie.Need-cast-inherited
+cast-inherited c = search needs
+
+inherited-requires : tie.Need-inherited-requires
+inherited-requires c κs = tt
+
+member-requires-2 : tie.Need-member-requires-2
+member-requires-2 c κs = tt
+
+returns-2 : tie.Need-returns-2
+returns-2 c =
+    let b = c .before .before .before in
+    rw (direct-member, ← b .before .before .effective-of .ensures, ← b .before .member .ensures, not-false (b .before .member .result) (b .if1 .left), ← c .before .inherited .ensures, c .member2 .ensures)
+
+pub is-direct-spec : {M : Type 1} → statement M
+is-direct-spec =
+    tie.close
+    (tie.spec
+    cast-p
+    effective-of-requires
+    member-requires
+    returns
+    cast-inherited
+    inherited-requires
+    member-requires-2
+    returns-2)
