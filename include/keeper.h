@@ -47,6 +47,9 @@ uint32_t keeper_load(uint64_t *block, size_t words, const uint8_t *bytes, size_t
 /* Gives the answer to whether a seat may use a privilege. */
 uint32_t keeper_ask(const uint64_t *block, size_t words, uint8_t seat, uint8_t privilege);
 
+/* Gives how many of the asks, two bytes each, a seat and a privilege, are answered yes; a byte left over asks nothing. */
+uint64_t keeper_count_yes(const uint64_t *block, size_t words, const uint8_t *asks, size_t length);
+
 /* Gives the number of drawn edges. */
 uint32_t keeper_edge_count(const uint64_t *block, size_t words);
 

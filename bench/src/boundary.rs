@@ -10,6 +10,8 @@ extern "C" {
     pub fn keeper_fresh(block: *mut u64, words: usize) -> u32;
     pub fn keeper_call(block: *mut u64, words: usize, bytes: *const u8, length: usize) -> u32;
     pub fn keeper_ask(block: *const u64, words: usize, seat: u8, privilege: u8) -> u32;
+    pub fn keeper_count_yes(block: *const u64, words: usize, asks: *const u8, length: usize)
+        -> u64;
     pub fn keeper_load(block: *mut u64, words: usize, bytes: *const u8, length: usize) -> u32;
     pub fn keeper_save(block: *const u64, words: usize, buffer: *mut u8, length: usize) -> u32;
 }

@@ -1,6 +1,8 @@
 //! The proved keeper as a value: a block of words, and the boundary's functions on it.
 
-use crate::boundary::{keeper_ask, keeper_call, keeper_fresh, keeper_load, keeper_save, WORDS};
+use crate::boundary::{
+    keeper_ask, keeper_call, keeper_count_yes, keeper_fresh, keeper_load, keeper_save, WORDS,
+};
 use crate::side::Side;
 
 #[derive(Clone)]
@@ -22,6 +24,12 @@ impl Side for Kept {
     #[inline(always)]
     fn ask(&self, seat: u8, privilege: u8) -> u32 {
         unsafe { keeper_ask(self.0.as_ptr(), WORDS, seat, privilege) }
+    }
+
+    #[inline(always)]
+    fn count_yes(&self, asks: &[u8]) -> u32 {
+        let yeses = unsafe { keeper_count_yes(self.0.as_ptr(), WORDS, asks.as_ptr(), asks.len()) };
+        yeses as u32
     }
 
     #[inline(always)]

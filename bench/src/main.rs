@@ -159,6 +159,20 @@ fn asks(table: &mut Table) {
     }
 }
 
+/// Asks one after another in one call, the loop being the keeper's own; the time is that of all.
+fn asks_in_a_loop(table: &mut Table) {
+    table.title("asks in the keeper's own loop");
+    let state = middling();
+    let ask = |n: u32| [(n % 20) as u8, (n * 7 % 64) as u8];
+    let asks: Vec<u8> = (0..1024).flat_map(ask).collect();
+    table.steady(
+        "1024 asks in one call",
+        &state,
+        |side| Side::count_yes(side, black_box(&asks)),
+        |side| Side::count_yes(side, black_box(&asks)),
+    );
+}
+
 fn calls(table: &mut Table) {
     let state = middling();
     let roles = state.roles().count_ones();
@@ -335,6 +349,7 @@ fn main() -> io::Result<()> {
     }
     println!("medians with their quartiles; * marks a ratio above {MOST}, of layers to a chain above {MOST_OF_LAYERS}");
     asks(&mut table);
+    asks_in_a_loop(&mut table);
     calls(&mut table);
     grants(&mut table);
     layers(&table);

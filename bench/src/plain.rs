@@ -5,7 +5,7 @@
 //! the numbers and the sets at hand is refused before anything is drawn.
 //!
 //! A set is a word, member n at bit n. Sound states alone are reached, since the fields are private: no two ordinary
-//! roles have one set, so "included" is "below" for two roles, and no seat holds a declared pair before a call.
+//! roles have one set, so "included" is "below" for two roles.
 
 const ENDS: u64 = 0b11;
 const MAX_ROLE: usize = 1;
@@ -208,6 +208,13 @@ impl Plain {
         }
     }
 
+    /// How many of these asks, a seat and a privilege each, are answered yes.
+    #[inline(never)]
+    pub fn count_yes(&self, asks: &[u8]) -> u32 {
+        let yes = |ask: &[u8]| self.answer(ask[0], ask[1]) == Ok(1);
+        asks.chunks_exact(2).filter(|ask| yes(ask)).count() as u32
+    }
+
     fn add_by_place(&mut self, a: u8, own: u64, juniors: u64, seniors: u64) -> Outcome {
         let named = juniors | seniors;
         if a > 63 {
@@ -368,15 +375,23 @@ impl Plain {
         Ok(0)
     }
 
-    /// Refusal 30 is judged for this seat alone: the others hold what they held.
+    /// Refusal 30 names the lowest seat that would hold a pair, whatever the state.
     fn assign(&mut self, a: u8, b: u8) -> Outcome {
         self.refuse_seat_and_role(a, b)?;
         let roles = self.seats[a as usize] | 1 << b;
         if roles == self.seats[a as usize] {
             return refuse(22, a);
         }
-        if holds_pair(&self.conflicts, union_of(&self.sets, roles)) {
-            return refuse(30, a);
+        let held = |seat: usize| {
+            let roles = if seat == a as usize {
+                roles
+            } else {
+                self.seats[seat]
+            };
+            holds_pair(&self.conflicts, union_of(&self.sets, roles))
+        };
+        if let Some(seat) = (0..64).find(|seat| held(*seat)) {
+            return refuse(30, seat as u8);
         }
         self.seats[a as usize] = roles;
         Ok(0)

@@ -6,6 +6,7 @@ pub trait Side: Clone {
     fn fresh() -> Self;
     fn call(&mut self, record: &[u8]) -> u32;
     fn ask(&self, seat: u8, privilege: u8) -> u32;
+    fn count_yes(&self, asks: &[u8]) -> u32;
     fn load(&mut self, bytes: &[u8]) -> u32;
     fn save(&self, buffer: &mut [u8]) -> u32;
 }
@@ -28,6 +29,11 @@ impl Side for Plain {
     #[inline(always)]
     fn ask(&self, seat: u8, privilege: u8) -> u32 {
         code(Plain::ask(self, seat, privilege))
+    }
+
+    #[inline(always)]
+    fn count_yes(&self, asks: &[u8]) -> u32 {
+        Plain::count_yes(self, asks)
     }
 
     #[inline(always)]

@@ -10,6 +10,7 @@ extern "C" {
     fn keeper_save(block: *const u64, words: usize, buffer: *mut u8, length: usize) -> u32;
     fn keeper_load(block: *mut u64, words: usize, bytes: *const u8, length: usize) -> u32;
     fn keeper_ask(block: *const u64, words: usize, seat: u8, privilege: u8) -> u32;
+    fn keeper_count_yes(block: *const u64, words: usize, asks: *const u8, length: usize) -> u64;
     fn keeper_edge_count(block: *const u64, words: usize) -> u32;
     fn keeper_effective(block: *const u64, words: usize, role: u8) -> u64;
     fn keeper_direct(block: *const u64, words: usize, role: u8) -> u64;
@@ -47,6 +48,11 @@ pub fn load(block: &mut [u64], bytes: &[u8]) -> u32 {
 pub fn ask(block: &[u64], seat: u8, privilege: u8) -> u32 {
     // SAFETY: the slice is valid for its length, here and in each reading below.
     unsafe { keeper_ask(block.as_ptr(), block.len(), seat, privilege) }
+}
+
+pub fn count_yes(block: &[u64], asks: &[u8]) -> u64 {
+    let (at, words) = (block.as_ptr(), block.len());
+    unsafe { keeper_count_yes(at, words, asks.as_ptr(), asks.len()) }
 }
 
 pub fn edge_count(block: &[u64]) -> u32 {

@@ -45,6 +45,7 @@ fn record(random: &mut Random) -> Vec<u8> {
 /// What changes nothing, of a block without a state.
 fn shows_nothing(words: &[u64], a: u8, b: u8) {
     assert_eq!(block::ask(words, a, b), NO_STATE);
+    assert_eq!(block::count_yes(words, &[a, b]), 0);
     assert_eq!(block::edge_count(words), 0);
     assert_eq!(block::effective(words, a), 0);
     assert_eq!(block::direct(words, a), 0);
@@ -104,6 +105,15 @@ fn shows_its_words(words: &[u64], a: u8, b: u8) {
     assert_eq!(block::ask(words, a, b), asked);
 }
 
+/// The yeses among many asks are those that each ask gives by itself; a byte left over asks nothing.
+fn counts_yeses(random: &mut Random, words: &[u64]) {
+    let length = random.under(40);
+    let asks: Vec<u8> = random.bytes(length).iter().map(|byte| byte % 80).collect();
+    let yes = |ask: &[u8]| block::ask(words, ask[0], ask[1]) == 1;
+    let yeses = asks.chunks_exact(2).filter(|ask| yes(ask)).count();
+    assert_eq!(block::count_yes(words, &asks), yeses as u64);
+}
+
 fn shows_one_graph(words: &[u64], a: u8, b: u8) {
     let joined = bit(block::juniors(words, b), a);
     assert_eq!(joined, bit(block::seniors(words, a), b));
@@ -156,6 +166,7 @@ fn any_contents_get_an_answer() {
             takes(&mut random, &mut words, load);
             shows_its_words(&words, random.byte() & 127, random.byte() & 127);
             shows_one_graph(&words, random.byte() & 63, random.byte() & 63);
+            counts_yeses(&mut random, &words);
         }
         saves(&words, random.under(6000));
     }

@@ -127,7 +127,7 @@ fn the_header_declares_what_the_wrapper_does() {
 #[test]
 fn the_header_declares_what_the_source_exports() {
     let (header, source) = (header(), source());
-    assert_eq!(header.len(), 14);
+    assert_eq!(header.len(), 15);
     assert_eq!(header, source);
 }
 
