@@ -13,7 +13,6 @@ use lib.Dec.{T, T-not, eqb, ltb, lt→ltb}
 use Rattle.sets.specs.Sets.{member, difference, collect, size, lowest-member, without-lowest}
 use Rattle.sets.proofs.Tests.{both, passes, fails, equal-test, test-equal}
 use Rattle.sets.proofs.Laws.{member-empty, member-collect}
-use Rattle.sets.proofs.Counting.{count-bound}
 use Rattle.sets.proofs.Walks.{lowest-in, lowest-below, lowest-of, member-next}
 use Rattle.graph.specs.Tables.{at}
 use Rattle.graph.specs.Graph.{Graph, ordinary, effective}
@@ -101,10 +100,6 @@ entry-bytes-append n (e ∷ l) m =
 pub length-members : (s : ℕ) (entry : ℕ → Entry) → length (member-entries s entry) ≡ size 64 s
 unfolding member-entries size
 length-members s entry = length-listed (λ n. member n s) entry 64
-
-pub size-bound : (s : ℕ) → size 64 s ≤ 64
-unfolding size
-size-bound s = count-bound 64 (λ n. member n s)
 
 members-none : (entry : ℕ → Entry) → member-entries 0 entry ≡ []
 unfolding member-entries

@@ -5,7 +5,7 @@ ghost use mathlib.Core.List.{_∷_};
 ghost use Prim.Native.Nat.{_+_, _≤_, _<_};
 ghost use lib.ListN.{length};
 ghost use lib.Dec.{eqb};
-ghost use Rattle.sets.specs.Sets.{empty, collect};
+ghost use Rattle.sets.specs.Sets.{empty, size, collect};
 ghost use Rattle.graph.specs.Tables.{at};
 ghost use Rattle.graph.specs.Graph.{privilege-count};
 ghost use Rattle.graph.specs.Conflicts.{conflict};
@@ -88,14 +88,24 @@ fn row(conflicts: &[u64], lower: usize) -> u64
     sets::difference(entry(conflicts, lower), not_higher)
 }
 
+// How many members a row has; most rows of an image are empty, and these are not counted out.
+fn row_size(row: u64) -> usize
+    ensures { λ r. ⌜ (r ≡ size privilege-count row) × (r ≤ privilege-count) ⌝ }
+{
+    if row == 0 {
+        0
+    } else {
+        sets::size(row) as usize
+    }
+}
+
 // How many conflicts are declared.
 fn count_conflicts(conflicts: &[u64]) -> usize
     ensures { λ r. ⌜ (r ≡ length (pair-entries (now (conflicts .entry)))) × (r ≤ 2016) ⌝ }
 {
     let mut n: usize = 0;
     for lower in 0..64usize {
-        let more = sets::size(row(conflicts, lower)) as usize;
-        n = n + more;
+        n = n + row_size(row(conflicts, lower));
     }
     n
 }

@@ -9,7 +9,7 @@ use lib.ListN.{length}
 use Rattle.graph.specs.Reading.{graph-of}
 use Rattle.seats.specs.ImageWork.{pair-entries}
 use Rattle.seats.proofs.ImageLength.{conflicts-bound}
-use Rattle.seats.proofs.MemberEntries.{rows-from, rows-all, rows-none, rows-counted, size-bound}
+use Rattle.seats.proofs.MemberEntries.{rows-from, rows-all, rows-none, rows-counted}
 use Rattle.seats.proofs.saving.count_conflicts.Statement.{statement}
 use Rattle.seats.proofs.saving.count_conflicts.Tie as tie
 
@@ -25,16 +25,13 @@ loop-holds c = (search needs, let e = ap length (rows-all (c .before .args .conf
 row-requires : tie.Need-row-requires Inv-loop μ-loop
 row-requires c κs = search needs
 
-size-requires : tie.Need-size-requires Inv-loop μ-loop
-size-requires c κs = search needs
+row-size-requires : tie.Need-row-size-requires Inv-loop μ-loop
+row-size-requires c κs = search needs
 
-counted : (c : tie.After-size Inv-loop μ-loop) → c .before .before .before .loop .n + c .size .result + length (rows-from (c .before .before .before .before .before .args .conflicts .now) (c .before .before .before .loop .lower + 1)) ≡ length (pair-entries (c .before .before .before .before .before .args .conflicts .now))
+counted : (c : tie.After-row-size Inv-loop μ-loop) → c .before .before .before .loop .n + c .row-size .result + length (rows-from (c .before .before .before .before .before .args .conflicts .now) (c .before .before .before .loop .lower + 1)) ≡ length (pair-entries (c .before .before .before .before .before .args .conflicts .now))
 counted c =
     let b = c .before .before .before in
-    rw (c .size .ensures) (rows-counted (b .before .before .args .conflicts .now) (b .loop .lower) (b .loop .n) (c .before .before .loop-test .taken) _ (c .before .row .ensures) (b .loop .inv .1))
-
-cast-more : tie.Need-cast-more Inv-loop μ-loop
-cast-more c = let l = size-bound (c .before .row .result) in let e = c .size .ensures in omega arith
+    rw (c .row-size .ensures .0) (rows-counted (b .before .before .args .conflicts .now) (b .loop .lower) (b .loop .n) (c .before .before .loop-test .taken) _ (c .before .row .ensures) (b .loop .inv .1))
 
 add-n : tie.Need-add-n Inv-loop μ-loop
 add-n c = let e = counted c in let l = conflicts-bound (graph-of 0 [] (c .before .before .before .before .before .args .conflicts .now)) in omega arith
@@ -65,8 +62,7 @@ count-conflicts-spec =
     μ-loop
     loop-holds
     row-requires
-    size-requires
-    cast-more
+    row-size-requires
     add-n
     add-lower
     loop-less

@@ -6,6 +6,7 @@ use mathlib.Core.List.{List, _++_}
 use Prim.Native.Nat.{ℕ, _<_}
 use Rattle.graph.specs.Tables.{at}
 use Rattle.graph.specs.Reading.{graph-of}
+use Rattle.sets.proofs.Laws.{size-bound}
 use Rattle.seats.specs.Bytes.{bytes-of}
 use Rattle.seats.specs.Seats.{State}
 use Rattle.seats.specs.Images.{entry-bytes, trailer, image}
@@ -14,7 +15,6 @@ use Rattle.seats.specs.ImageWork.{table-entries, pair-entries}
 use Rattle.seats.proofs.Numbers.{length-bytes-of}
 use Rattle.seats.proofs.ImageLength.{length-trailer}
 use Rattle.seats.proofs.Writing.{Writing, writing-room, piece-room, writing-next, writing-last}
-use Rattle.seats.proofs.MemberEntries.{size-bound}
 use Rattle.seats.proofs.SaveParts.{Counted, saves-nothing, saving-starts, saves-all}
 use Rattle.seats.proofs.saving.save.Statement.{statement}
 use Rattle.seats.proofs.saving.save.Tie as tie
@@ -90,21 +90,21 @@ size-requires : tie.Need-size-requires
 size-requires c κs = search needs
 
 cast-r : tie.Need-cast-r
-cast-r c = let a = size-bound (c .before .before .difference .result) in let e = c .size .ensures in omega arith
+cast-r c = let a = size-bound 64 (c .before .before .difference .result) in let e = c .size .ensures in omega arith
 
 size-requires-2 : tie.Need-size-requires-2
 size-requires-2 c κs = search needs
 
 cast-s : tie.Need-cast-s
-cast-s c = let a = size-bound (c .before .before .occupied .result) in let e = c .size2 .ensures in omega arith
+cast-s c = let a = size-bound 64 (c .before .before .occupied .result) in let e = c .size2 .ensures in omega arith
 
 count-conflicts-requires : tie.Need-count-conflicts-requires
 count-conflicts-requires c κs = search needs
 
 few : (c : tie.After-count-conflicts) → (c .before .before .size .result < 256) × (c .before .size2 .result < 256) × (c .count-conflicts .result < 65536)
 few c =
-    let a = size-bound (c .before .before .before .before .difference .result) in
-    let b = size-bound (c .before .before .before .occupied .result) in
+    let a = size-bound 64 (c .before .before .before .before .difference .result) in
+    let b = size-bound 64 (c .before .before .before .occupied .result) in
     let e = c .before .before .size .ensures in
     let f = c .before .size2 .ensures in
     let l = c .count-conflicts .ensures .1 in
