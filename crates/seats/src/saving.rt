@@ -88,14 +88,15 @@ fn row(conflicts: &[u64], lower: usize) -> u64
     sets::difference(entry(conflicts, lower), not_higher)
 }
 
-// How many members a row has; most rows of an image are empty, and these are not counted out.
-fn row_size(row: u64) -> usize
-    ensures { λ r. ⌜ (r ≡ size privilege-count row) × (r ≤ privilege-count) ⌝ }
+// The conflicts of one row more counted; most rows of an image are empty and cost no count.
+fn counted(n: usize, row: u64) -> usize
+    requires { ⌜ n ≤ 2016 ⌝ }
+    ensures { λ r. ⌜ r ≡ n + size privilege-count row ⌝ }
 {
     if row == 0 {
-        0
+        n
     } else {
-        sets::size(row) as usize
+        n + sets::size(row) as usize
     }
 }
 
@@ -105,7 +106,7 @@ fn count_conflicts(conflicts: &[u64]) -> usize
 {
     let mut n: usize = 0;
     for lower in 0..64usize {
-        n = n + row_size(row(conflicts, lower));
+        n = counted(n, row(conflicts, lower));
     }
     n
 }

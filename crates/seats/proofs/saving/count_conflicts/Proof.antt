@@ -25,16 +25,12 @@ loop-holds c = (search needs, let e = ap length (rows-all (c .before .args .conf
 row-requires : tie.Need-row-requires Inv-loop μ-loop
 row-requires c κs = search needs
 
-row-size-requires : tie.Need-row-size-requires Inv-loop μ-loop
-row-size-requires c κs = search needs
-
-counted : (c : tie.After-row-size Inv-loop μ-loop) → c .before .before .before .loop .n + c .row-size .result + length (rows-from (c .before .before .before .before .before .args .conflicts .now) (c .before .before .before .loop .lower + 1)) ≡ length (pair-entries (c .before .before .before .before .before .args .conflicts .now))
-counted c =
-    let b = c .before .before .before in
-    rw (c .row-size .ensures .0) (rows-counted (b .before .before .args .conflicts .now) (b .loop .lower) (b .loop .n) (c .before .before .loop-test .taken) _ (c .before .row .ensures) (b .loop .inv .1))
-
-add-n : tie.Need-add-n Inv-loop μ-loop
-add-n c = let e = counted c in let l = conflicts-bound (graph-of 0 [] (c .before .before .before .before .before .args .conflicts .now)) in omega arith
+counted-requires : tie.Need-counted-requires Inv-loop μ-loop
+counted-requires c κs =
+    let b = c .before .before in
+    let e = b .loop .inv .1 in
+    let l = conflicts-bound (graph-of 0 [] (b .before .before .args .conflicts .now)) in
+    omega arith
 
 add-lower : tie.Need-add-lower Inv-loop μ-loop
 add-lower c = search needs
@@ -43,7 +39,10 @@ loop-less : tie.Need-loop-less Inv-loop μ-loop
 loop-less c = search needs
 
 loop-again : tie.Need-loop-again Inv-loop μ-loop
-loop-again c = (search needs, counted c)
+loop-again c =
+    let b = c .before .before .before in
+    let C = b .before .before .args .conflicts .now in
+    (search needs, rw (c .counted .ensures) (rows-counted C (b .loop .lower) (b .loop .n) (c .before .before .loop-test .taken) _ (c .before .row .ensures) (b .loop .inv .1)))
 
 returns : tie.Need-returns Inv-loop μ-loop
 returns c =
@@ -62,8 +61,7 @@ count-conflicts-spec =
     μ-loop
     loop-holds
     row-requires
-    row-size-requires
-    add-n
+    counted-requires
     add-lower
     loop-less
     loop-again

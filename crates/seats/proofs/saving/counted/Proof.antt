@@ -1,0 +1,27 @@
+-- `seats::saving::counted` meets its contract: the empty row has no members.
+-- Assumes nothing.
+use borrow.Author.Needs.{needs}
+use native.Mathlib.Omega.{arith}
+use Rattle.sets.specs.Counting.{count}
+use Rattle.sets.specs.Sets.{digit, member, size}
+use Rattle.seats.proofs.saving.counted.Statement.{statement}
+use Rattle.seats.proofs.saving.counted.Tie as tie
+
+size-requires : tie.Need-size-requires
+size-requires c κs = tt
+
+cast-result : tie.Need-cast-result
+cast-result c = search needs
+
+add-result : tie.Need-add-result
+add-result c = search needs
+
+returns : tie.Need-returns
+unfolding size count member digit
+returns c = rw (c .if1 .taken) (omega arith)
+
+returns-2 : tie.Need-returns-2
+returns-2 c = search needs
+
+pub counted-spec : {M : Type 1} → statement M
+counted-spec = tie.close (tie.spec size-requires cast-result add-result returns returns-2)
