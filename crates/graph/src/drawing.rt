@@ -12,6 +12,7 @@ use crate::Role;
 use crate::entries::seniors_in;
 use crate::entries::whole;
 use crate::table::entry;
+use crate::table::gathered;
 
 // The ordinary roles: those present without the numbers of the end roles.
 pub fn ordinary_roles(roles: u64) -> u64
@@ -66,20 +67,6 @@ fn lowers(roles: u64, sets: &[u64]) -> [u64; 64]
         let s = sets::lowest_member(rest) as usize;
         let under = lower(roles, sets, s);
         found[s] = under;
-        rest = sets::without_lowest(rest);
-    }
-    found
-}
-
-// The union of a table's entries at the members of `all`.
-fn gathered(table: &[u64], all: u64) -> u64
-    ensures { λ v. ⌜ v ≡ gather role-count (λ r. member r all) (at (now (table .entry))) ⌝ }
-{
-    let mut found: u64 = 0;
-    let mut rest = all;
-    while rest != 0 {
-        let r = sets::lowest_member(rest) as usize;
-        found = sets::union(found, entry(table, r));
         rest = sets::without_lowest(rest);
     }
     found

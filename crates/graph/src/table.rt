@@ -1,5 +1,7 @@
-// A table of sets by number: one entry read, and one stored.
+// A table of sets by number: one entry read, many joined, and one stored.
 ghost use mathlib.Core.Path.{_≡_};
+ghost use Rattle.sets.specs.Sets.{member, gather};
+ghost use Rattle.graph.specs.Graph.{role-count};
 ghost use Rattle.graph.specs.Tables.{at, stored};
 use crate::Entry;
 
@@ -8,6 +10,20 @@ pub fn entry(table: &[u64], n: usize) -> u64
     ensures { λ v. ⌜ v ≡ at (now (table .entry)) n ⌝ }
 {
     if n < table.len() { table[n] } else { 0 }
+}
+
+// The union of a table's entries at the members of `all`.
+pub fn gathered(table: &[u64], all: u64) -> u64
+    ensures { λ v. ⌜ v ≡ gather role-count (λ r. member r all) (at (now (table .entry))) ⌝ }
+{
+    let mut found: u64 = 0;
+    let mut rest = all;
+    while rest != 0 {
+        let r = sets::lowest_member(rest) as usize;
+        found = sets::union(found, entry(table, r));
+        rest = sets::without_lowest(rest);
+    }
+    found
 }
 
 // Stores an entry, if there is one.

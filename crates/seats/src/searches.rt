@@ -18,20 +18,7 @@ use graph::Role;
 use graph::refusing::holds_both;
 use graph::refusing::holds_pair;
 use graph::table::entry;
-
-// The union of the sets of these roles.
-pub(crate) fn joined(sets: &[u64], roles: u64) -> u64
-    ensures { λ v. ⌜ v ≡ gather role-count (λ r. member r roles) (at (now (sets .entry))) ⌝ }
-{
-    let mut found: u64 = 0;
-    let mut rest = roles;
-    while rest != 0 {
-        let r = sets::lowest_member(rest) as usize;
-        found = sets::union(found, entry(sets, r));
-        rest = sets::without_lowest(rest);
-    }
-    found
-}
+use graph::table::gathered;
 
 // A refusal as an answer.
 pub(crate) fn refusal(number: u8, place: u8) -> Answer
@@ -66,7 +53,7 @@ fn pair_seat_with<'a>(
     for i in 0..64u8 {
         let n = i as usize;
         let roles = sets::union(entry(seats, n), sets::when(n == a, added));
-        if roles != 0 && holds_pair(conflicts, joined(sets, roles)) {
+        if roles != 0 && holds_pair(conflicts, gathered(sets, roles)) {
             return i;
         }
     }
@@ -102,7 +89,7 @@ pub(crate) fn offered_seat<'a>(sets: &'a [u64], seats: &'a [u64], a: Privilege, 
 {
     for i in 0..64u8 {
         let own = entry(seats, i as usize);
-        if own != 0 && holds_both(a, b, joined(sets, own)) {
+        if own != 0 && holds_both(a, b, gathered(sets, own)) {
             return i;
         }
     }

@@ -11,10 +11,10 @@ ghost use Rattle.seats.specs.Asks.{is-yes, yes-count};
 ghost use Rattle.seats.specs.Reading.{state-of, read-answer};
 use crate::Answer;
 use crate::Seat;
-use crate::searches::joined;
 use crate::searches::refusal;
 use graph::Privilege;
 use graph::table::entry;
+use graph::table::gathered;
 
 // The roles of a seat.
 pub fn roles_of(seats: &[u64], seat: Seat) -> u64
@@ -27,7 +27,7 @@ pub fn roles_of(seats: &[u64], seat: Seat) -> u64
 pub fn held_by<'a>(sets: &'a [u64], seats: &'a [u64], seat: Seat) -> u64
     ensures { λ v. ⌜ ((R : ℕ) (C : List ℕ) → v ≡ held (state-of R (now (sets .entry)) C (now (seats .entry))) (seat .0)) ⌝ }
 {
-    joined(sets, roles_of(seats, seat))
+    gathered(sets, roles_of(seats, seat))
 }
 
 // Kind 12: what a record that asks would be answered next, whatever the roles present and the conflicts.

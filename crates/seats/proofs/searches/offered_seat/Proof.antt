@@ -34,8 +34,8 @@ cast-entry c = search needs
 entry-requires : tie.Need-entry-requires Inv-loop μ-loop
 entry-requires c κs = tt
 
-joined-requires : tie.Need-joined-requires Inv-loop μ-loop
-joined-requires c κs = tt
+gathered-requires : tie.Need-gathered-requires Inv-loop μ-loop
+gathered-requires c κs = tt
 
 holds-both-requires : tie.Need-holds-both-requires Inv-loop μ-loop
 holds-both-requires c κs = tt
@@ -46,7 +46,7 @@ returns c =
     let o = c .before .before .before .before in
     let t = o .before in
     scanned-hit (t .before .loop .inv) (t .loop-test .taken)
-    (ap (holds-both _ _) (ap (joint _) (sym (o .entry .ensures)) ∙ sym (c .before .before .joined .ensures)) ∙ sym (c .before .holds-both .ensures) ∙ c .if2 .taken)
+    (ap (holds-both _ _) (ap (joint _) (sym (o .entry .ensures)) ∙ sym (c .before .before .gathered .ensures)) ∙ sym (c .before .holds-both .ensures) ∙ c .if2 .taken)
 
 add-i : tie.Need-add-i Inv-loop μ-loop
 add-i c = search needs
@@ -78,7 +78,7 @@ offered-seat-spec =
     loop-holds
     cast-entry
     entry-requires
-    joined-requires
+    gathered-requires
     holds-both-requires
     returns
     add-i

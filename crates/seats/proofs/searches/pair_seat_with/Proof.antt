@@ -41,8 +41,8 @@ when-requires c κs = tt
 union-requires : tie.Need-union-requires Inv-loop μ-loop
 union-requires c κs = tt
 
-joined-requires : tie.Need-joined-requires Inv-loop μ-loop
-joined-requires c κs = tt
+gathered-requires : tie.Need-gathered-requires Inv-loop μ-loop
+gathered-requires c κs = tt
 
 holds-pair-requires : tie.Need-holds-pair-requires Inv-loop μ-loop
 holds-pair-requires c κs = tt
@@ -59,7 +59,7 @@ returns c =
     let u = c .before .before .before .before in
     let t = u .before .before .before in
     scanned-hit (t .before .loop .inv) (t .loop-test .taken)
-    (ap (holds-pair _) (ap (joint _) (sym (owned u)) ∙ sym (c .before .before .joined .ensures)) ∙ sym (c .before .holds-pair .ensures) ∙ c .if2 .taken)
+    (ap (holds-pair _) (ap (joint _) (sym (owned u)) ∙ sym (c .before .before .gathered .ensures)) ∙ sym (c .before .holds-pair .ensures) ∙ c .if2 .taken)
 
 add-i : tie.Need-add-i Inv-loop μ-loop
 add-i c = search needs
@@ -92,7 +92,7 @@ pair-seat-with-spec =
     entry-requires
     when-requires
     union-requires
-    joined-requires
+    gathered-requires
     holds-pair-requires
     returns
     add-i

@@ -1,4 +1,4 @@
--- `seats::seating::held_by` meets its contract: the sets of the seat's roles are joined.
+-- `seats::seating::held_by` meets its contract: the sets of the seat's roles are gathered.
 -- Assumes nothing.
 use mathlib.Core.Path.{ap, _∙_}
 use Prim.Native.Nat.{ℕ}
@@ -12,14 +12,14 @@ use Rattle.seats.proofs.seating.held_by.Tie as tie
 roles-of-requires : tie.Need-roles-of-requires
 roles-of-requires c κs = tt
 
-joined-requires : tie.Need-joined-requires
-joined-requires c κs = tt
+gathered-requires : tie.Need-gathered-requires
+gathered-requires c κs = tt
 
 returns : tie.Need-returns
 unfolding held assigned effective
 returns c R C =
-    c .joined .ensures
+    c .gathered .ensures
     ∙ ap (λ (roles : ℕ). gather role-count (λ r. member r roles) (at (c .before .before .before .before .args .sets .now))) (c .before .roles-of .ensures)
 
 pub held-by-spec : {M : Type 1} → statement M
-held-by-spec = tie.close (tie.spec roles-of-requires joined-requires returns)
+held-by-spec = tie.close (tie.spec roles-of-requires gathered-requires returns)

@@ -1,11 +1,11 @@
--- `graph::drawing::gathered` meets its contract: the entries of the members visited so far are gathered.
+-- `graph::table::gathered` meets its contract: the entries of the members visited so far are gathered.
 -- Assumes nothing.
 use borrow.Author.Needs.{needs}
 use mathlib.Core.Path.{_∙_}
 use Rattle.graph.specs.Tables.{at}
 use Rattle.graph.proofs.Loops.{left-falls, Gathering, gathering-none, gathering-next, gathering-done}
-use Rattle.graph.proofs.drawing.gathered.Statement.{statement}
-use Rattle.graph.proofs.drawing.gathered.Tie as tie
+use Rattle.graph.proofs.table.gathered.Statement.{statement}
+use Rattle.graph.proofs.table.gathered.Tie as tie
 
 abbrev Inv-loop : tie.InvT-loop
 Inv-loop table all found₀ rest₀ found rest = Gathering (at table) all rest found
