@@ -12,7 +12,7 @@ use lib.Seq.{getD-set-same, getD-set-other}
 use lib.Dec.{T, not-T, eqb, ltb, lt→ltb}
 use Rattle.sets.specs.Sets.{member, single, union, difference, when, collect}
 use Rattle.sets.proofs.Tests.{both, join, either, same-test, passes, fails, decide, equal-test, test-equal}
-use Rattle.sets.proofs.Laws.{member-union, member-difference, member-single, member-when, member-collect, member-empty, member-lt, union-lt, difference-lt, union-empty, difference-empty}
+use Rattle.sets.proofs.Laws.{member-union, member-difference, member-single, member-when, member-collect, member-empty, member-lt, union-lt, difference-lt}
 use Rattle.sets.proofs.Members.{union-left, union-right, single-in, no-members}
 use Rattle.graph.specs.Tables.{at, table}
 use Rattle.graph.specs.Graph.{Graph, role-count, max-role, is-end, ordinary}
@@ -217,22 +217,13 @@ topped d J whole own all same t r k l =
 
 -- ---- direct privileges
 module _ (D : List ℕ) (whole : length D ≡ role-count) (f : ℕ → ℕ) (same : (r : ℕ) → r < role-count → at D r ≡ f r) (a : ℕ) (ka : a < role-count) where
-  -- One role is given a set more.
-  pub given : (s r : ℕ) → r < role-count → at (set D a (union (at D a) s)) r ≡ union (f r) (for-role a s r)
+  -- One role's set altered by a second set; the empty set alters nothing.
+  pub altered : (op : ℕ → ℕ → ℕ) → ((x : ℕ) → op x 0 ≡ x) → (s r : ℕ) → r < role-count → at (set D a (op (at D a) s)) r ≡ op (f r) (for-role a s r)
   unfolding for-role when
-  given s r l =
+  altered op idle s r l =
       elim (ℕ-discrete r a) [
-        | yes e ↦ ap (at (set D a (union (at D a) s))) e ∙ set-same D whole a (union (at D a) s) ka ∙ ap (λ (x : ℕ). union x s) (same a ka ∙ ap f (sym e)) ∙ sym (rw (passes (eqb r a) (equal-test e)))
-        | no d ↦ set-other D whole a (union (at D a) s) ka r d ∙ same r l ∙ sym (rw (fails (eqb r a) (λ x. d (test-equal x))) (union-empty (f r)))
-      ]
-
-  -- One role loses the members of a set.
-  pub taken : (s r : ℕ) → r < role-count → at (set D a (difference (at D a) s)) r ≡ difference (f r) (for-role a s r)
-  unfolding for-role when
-  taken s r l =
-      elim (ℕ-discrete r a) [
-        | yes e ↦ ap (at (set D a (difference (at D a) s))) e ∙ set-same D whole a (difference (at D a) s) ka ∙ ap (λ (x : ℕ). difference x s) (same a ka ∙ ap f (sym e)) ∙ sym (rw (passes (eqb r a) (equal-test e)))
-        | no d ↦ set-other D whole a (difference (at D a) s) ka r d ∙ same r l ∙ sym (rw (fails (eqb r a) (λ x. d (test-equal x))) (difference-empty (f r)))
+        | yes e ↦ ap (at (set D a (op (at D a) s))) e ∙ set-same D whole a (op (at D a) s) ka ∙ ap (λ (x : ℕ). op x s) (same a ka ∙ ap f (sym e)) ∙ sym (rw (passes (eqb r a) (equal-test e)))
+        | no d ↦ set-other D whole a (op (at D a) s) ka r d ∙ same r l ∙ sym (rw (fails (eqb r a) (λ x. d (test-equal x))) (idle (f r)))
       ]
 
   -- One role is left with nothing.

@@ -12,7 +12,7 @@ use lib.Pow.{pow-pos}
 use lib.Dec.{T, eqb, ltb, lt→ltb}
 use Rattle.sets.proofs.Tests.{passes}
 use Rattle.sets.specs.Sets.{member, single, union, difference, when, collect}
-use Rattle.sets.proofs.Laws.{union-lt, difference-lt, difference-empty, single-lt, when-lt, collect-lt}
+use Rattle.sets.proofs.Laws.{union-lt, union-empty, difference-lt, difference-empty, single-lt, when-lt, collect-lt}
 use Rattle.graph.specs.Tables.{at, table}
 use Rattle.graph.specs.Graph.{Graph, role-count, privilege-count}
 use Rattle.graph.specs.Drawing.{edge, juniors, direct, redraw, direct-table}
@@ -28,7 +28,7 @@ use Rattle.graph.proofs.Heights.{order}
 use Rattle.graph.proofs.Refusals.{Passes, parts, passed-passes, number-lt}
 use Rattle.graph.proofs.Drawings.{seniors-cover, directs-table, table-cong}
 use Rattle.graph.proofs.Edits.{Fits}
-use Rattle.graph.proofs.Arrays.{carried, drawn-at, seniors-at, link-joins, place-joins, unlink-joins, remove-joins, given, taken, emptied}
+use Rattle.graph.proofs.Arrays.{carried, drawn-at, seniors-at, link-joins, place-joins, unlink-joins, remove-joins, altered, emptied}
 
 -- The one-member set of a number below the width.
 pub known-single : (n : ℕ) {s : ℕ} → n < role-count → s ≡ when (ltb n role-count) (single n) → s ≡ single n
@@ -40,13 +40,9 @@ pub read-directs : (roles : ℕ) (sets : List ℕ) {P : ℕ} {K E : List ℕ} �
     → E ≡ direct-table (union (difference roles 3) 2) sets (table role-count (juniors (drawn-from roles sets)))
 read-directs roles sets p k e = e ∙ ap₂ (λ (x : ℕ) (y : List ℕ). direct-table x sets y) p k
 
--- One entry joined with a set, as the code stores it.
-pub stored-union : {E F : List ℕ} (a : ℕ) {u s t : ℕ} → E ≡ F → u ≡ union (at E a) s → s ≡ t → set E a u ≡ set F a (union (at F a) t)
-stored-union a p q r = ap₂ (λ (x : List ℕ) (y : ℕ). set x a y) p (q ∙ ap₂ (λ (x : List ℕ) (y : ℕ). union (at x a) y) p r)
-
--- One entry less a set, as the code stores it.
-pub stored-difference : {E F : List ℕ} (a : ℕ) {u s t : ℕ} → E ≡ F → u ≡ difference (at E a) s → s ≡ t → set E a u ≡ set F a (difference (at F a) t)
-stored-difference a p q r = ap₂ (λ (x : List ℕ) (y : ℕ). set x a y) p (q ∙ ap₂ (λ (x : List ℕ) (y : ℕ). difference (at x a) y) p r)
+-- One entry altered by a set, as the code stores it.
+pub stored-by : (op : ℕ → ℕ → ℕ) {E F : List ℕ} (a : ℕ) {u s t : ℕ} → E ≡ F → u ≡ op (at E a) s → s ≡ t → set E a u ≡ set F a (op (at F a) t)
+stored-by op a p q r = ap₂ (λ (x : List ℕ) (y : ℕ). set x a y) p (q ∙ ap₂ (λ (x : List ℕ) (y : ℕ). op (at x a) y) p r)
 
 -- A set taken out of, and another joined to, each entry of a set of roles, as the code leaves the table.
 pub exchanged-all : {X Y L : List ℕ} {I M o p s t : ℕ} → X ≡ Y → I ≡ M → o ≡ p → s ≡ t → L ≡ table role-count (λ r. union (difference (at X r) (when (member r I) o)) (when (member r I) s))
@@ -157,7 +153,7 @@ module _ (roles : ℕ) (h : roles < 2 ^ role-count) (sets : List ℕ) where
 
   pub add-carried : (a own : ℕ) → own < 2 ^ privilege-count → early g (add-by-privileges a own) ≡ passed → Carried g (add-by-privileges a own) (union roles (single a)) (set D a (union (at D a) own)) J
   unfolding edit redraw Fits
-  add-carried a own lo e = made (add-by-privileges a own) lo e (union roles (single a)) (set D a (union (at D a) own)) J refl J-table (given D D-whole (direct g) D-at a (add-lt a own e) own) J-at
+  add-carried a own lo e = made (add-by-privileges a own) lo e (union roles (single a)) (set D a (union (at D a) own)) J refl J-table (altered D D-whole (direct g) D-at a (add-lt a own e) union union-empty own) J-at
 
   -- ---- kind 4
   pub grant-lt : (a b : ℕ) → early g (grant a b) ≡ passed → (a < role-count) × (b < privilege-count)
@@ -166,7 +162,7 @@ module _ (roles : ℕ) (h : roles < 2 ^ role-count) (sets : List ℕ) where
 
   pub grant-carried : (a b : ℕ) → early g (grant a b) ≡ passed → Carried g (grant a b) roles (set D a (union (at D a) (single b))) J
   unfolding edit redraw Fits
-  grant-carried a b e = made (grant a b) tt e roles (set D a (union (at D a) (single b))) J refl J-table (given D D-whole (direct g) D-at a (grant-lt a b e .0) (single b)) J-at
+  grant-carried a b e = made (grant a b) tt e roles (set D a (union (at D a) (single b))) J refl J-table (altered D D-whole (direct g) D-at a (grant-lt a b e .0) union union-empty (single b)) J-at
 
   -- ---- kind 5
   pub withdraw-lt : (a b : ℕ) → early g (withdraw a b) ≡ passed → (a < role-count) × (b < privilege-count)
@@ -175,7 +171,7 @@ module _ (roles : ℕ) (h : roles < 2 ^ role-count) (sets : List ℕ) where
 
   pub withdraw-carried : (a b : ℕ) → early g (withdraw a b) ≡ passed → Carried g (withdraw a b) roles (set D a (difference (at D a) (single b))) J
   unfolding edit redraw Fits
-  withdraw-carried a b e = made (withdraw a b) tt e roles (set D a (difference (at D a) (single b))) J refl J-table (taken D D-whole (direct g) D-at a (withdraw-lt a b e .0) (single b)) J-at
+  withdraw-carried a b e = made (withdraw a b) tt e roles (set D a (difference (at D a) (single b))) J refl J-table (altered D D-whole (direct g) D-at a (withdraw-lt a b e .0) difference difference-empty (single b)) J-at
 
   -- ---- kind 6
   pub link-lt : (a b : ℕ) → early g (add-edge a b) ≡ passed → (a < role-count) × (b < role-count)
@@ -202,7 +198,7 @@ module _ (roles : ℕ) (h : roles < 2 ^ role-count) (sets : List ℕ) where
       let f : ℕ → ℕ = λ r. union (at J r) (when (member r ss) (single a)) in
       let w = bounded-table f (λ r. union-lt role-count _ _ (J-table .entry-lt r) (when-lt role-count (member r ss) (single a) (single-lt role-count a ka))) in
       made (add-by-place a own js ss) (lo, lj, ls) e (union roles (single a)) (set D a (union (at D a) own)) (set (table role-count f) a (union (at (table role-count f) a) js)) refl
-      (set-table w a 0 ka _ (union-lt role-count _ _ (w .entry-lt a) lj)) (given D D-whole (direct g) D-at a ka own) (place-joins g h a own js ss ka)
+      (set-table w a 0 ka _ (union-lt role-count _ _ (w .entry-lt a) lj)) (altered D D-whole (direct g) D-at a ka union union-empty own) (place-joins g h a own js ss ka)
 
   -- ---- kind 7
   pub unlink-lt : (a b : ℕ) → early g (remove-edge a b) ≡ passed → (a < role-count) × (b < role-count)

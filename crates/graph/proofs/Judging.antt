@@ -57,6 +57,14 @@ module _ (l m : List Check) {v : the-data} (e : read-verdict v ≡ verdict l) wh
   unfolding read-verdict after
   passed-first d = verdict-append l m ∙ ap (λ (w : Verdict). after w (verdict m)) (sym e ∙ ap read-verdict d)
 
+-- It passed, and the check after it refuses, or is the last one and does not.
+module _ (l : List Check) (c : Check) (m : List Check) {v : the-data} (e : read-verdict v ≡ verdict l) (d : v ≡ Passed) where
+  pub then-stops : c .holds ≡ true → refused (c .number) (c .place) ≡ verdict (l ++ (c ∷ m))
+  then-stops h = sym (passed-first l (c ∷ m) e d ∙ stops c m h)
+
+  pub then-goes : c .holds ≡ false → verdict m ≡ verdict (l ++ (c ∷ m))
+  then-goes h = sym (passed-first l (c ∷ m) e d ∙ moves-on c m h)
+
 -- ---- what a call leaves
 module _ (l : List Check) (g h : Graph) {v : the-data} (e : read-verdict v ≡ verdict l) where
   pub stays : {r : Refusal} → v ≡ Refused r → (read-verdict v, g) ≡ keep (verdict l) g h

@@ -69,7 +69,7 @@ fn carry_out(roles: u64, sets: &[u64], change: Change) -> Attempt
     }
 }
 
-// Refusals 2 to 5 and 20 to 25 but for 24; where none comes, the roles and sets after the change, and otherwise no sets.
+// Refusals 2 to 5 and 20 to 25 but for 24; where none comes, the roles and sets after the change; otherwise those fields say nothing.
 pub fn attempt(roles: u64, sets: &[u64], change: Change) -> Attempt
     ensures { λ r. let g = drawn-from roles (now (sets .entry)) in ⌜ read-attempt g r ≡ keep (early g (read-change change)) g (changed g (read-change change)) ⌝ }
 {

@@ -6,7 +6,7 @@ use borrow.Author.Needs.{needs}
 use Rattle.sets.specs.Sets.{union}
 use Rattle.graph.specs.Tables.{at}
 use Rattle.graph.specs.Graph.{role-count}
-use Rattle.graph.proofs.Carrying.{add-lt, add-carried, may-close, closes-to, stored-union, read-directs, known-single}
+use Rattle.graph.proofs.Carrying.{add-lt, add-carried, may-close, closes-to, stored-by, read-directs, known-single}
 use Rattle.graph.proofs.changing.added.Statement.{statement}
 use Rattle.graph.proofs.changing.added.Tie as tie
 
@@ -67,7 +67,7 @@ returns c =
     let directs = read-directs (p .args .roles) (p .args .sets .now) (e .before .before .senior-roles .ensures) (d .draw .ensures) (e .direct-sets .ensures) in
     closes-to (add-carried (p .args .roles) (search needs) (p .args .sets .now) (p .args .a .0) (p .args .own) (search needs) (p .pre))
     (c .before .before .union2 .ensures ∙ ap (union (p .args .roles)) (known-single (p .args .a .0) (named p) (c .before .before .before .single .ensures)))
-    (stored-union (p .args .a .0) directs (c .before .before .before .before .union .ensures) refl)
+    (stored-by union (p .args .a .0) directs (c .before .before .before .before .union .ensures) refl)
     (d .draw .ensures)
     (c .closed .ensures)
 

@@ -3,9 +3,10 @@
 use mathlib.Core.Path.{refl}
 use Prim.Native.Nat.{_<_}
 use borrow.Author.Needs.{needs}
+use Rattle.sets.specs.Sets.{union}
 use Rattle.graph.specs.Tables.{at}
 use Rattle.graph.specs.Graph.{role-count, privilege-count}
-use Rattle.graph.proofs.Carrying.{grant-lt, grant-carried, may-close, closes-to, stored-union, read-directs, known-single}
+use Rattle.graph.proofs.Carrying.{grant-lt, grant-carried, may-close, closes-to, stored-by, read-directs, known-single}
 use Rattle.graph.proofs.changing.granted.Statement.{statement}
 use Rattle.graph.proofs.changing.granted.Tie as tie
 
@@ -60,7 +61,7 @@ returns c =
     let p = d .before .before .before .before in
     let directs = read-directs (p .args .roles) (p .args .sets .now) (e .before .before .senior-roles .ensures) (d .draw .ensures) (e .direct-sets .ensures) in
     closes-to (grant-carried (p .args .roles) (search needs) (p .args .sets .now) (p .args .a .0) (p .args .b .0) (p .pre)) refl
-    (stored-union (p .args .a .0) directs (c .before .before .insert .ensures) (known-single (p .args .b .0) (named p .1) refl))
+    (stored-by union (p .args .a .0) directs (c .before .before .insert .ensures) (known-single (p .args .b .0) (named p .1) refl))
     (d .draw .ensures)
     (c .closed .ensures)
 

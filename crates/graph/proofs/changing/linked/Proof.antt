@@ -3,9 +3,10 @@
 use mathlib.Core.Path.{refl}
 use Prim.Native.Nat.{_<_}
 use borrow.Author.Needs.{needs}
+use Rattle.sets.specs.Sets.{union}
 use Rattle.graph.specs.Tables.{at}
 use Rattle.graph.specs.Graph.{role-count}
-use Rattle.graph.proofs.Carrying.{link-lt, link-carried, may-close, closes-to, stored-union, read-directs, known-single}
+use Rattle.graph.proofs.Carrying.{link-lt, link-carried, may-close, closes-to, stored-by, read-directs, known-single}
 use Rattle.graph.proofs.changing.linked.Statement.{statement}
 use Rattle.graph.proofs.changing.linked.Tie as tie
 
@@ -54,7 +55,7 @@ closed-requires c κs =
     let d = c .before .before .before .before .before .before in
     let p = d .before .before .before .before in
     may-close (link-carried (p .args .roles) (search needs) (p .args .sets .now) (p .args .a .0) (p .args .b .0) (p .pre)) refl
-    (stored-union (p .args .b .0) (d .draw .ensures) (c .before .union .ensures) (known-single (p .args .a .0) (named p .0) (c .before .before .single .ensures)))
+    (stored-by union (p .args .b .0) (d .draw .ensures) (c .before .union .ensures) (known-single (p .args .a .0) (named p .0) (c .before .before .single .ensures)))
 
 returns : tie.Need-returns
 unfolding at
@@ -65,7 +66,7 @@ returns c =
     let directs = read-directs (p .args .roles) (p .args .sets .now) (e .before .before .senior-roles .ensures) (d .draw .ensures) (e .direct-sets .ensures) in
     closes-to (link-carried (p .args .roles) (search needs) (p .args .sets .now) (p .args .a .0) (p .args .b .0) (p .pre)) refl
     directs
-    (stored-union (p .args .b .0) (d .draw .ensures) (c .before .before .union .ensures) (known-single (p .args .a .0) (named p .0) (c .before .before .before .single .ensures)))
+    (stored-by union (p .args .b .0) (d .draw .ensures) (c .before .before .union .ensures) (known-single (p .args .a .0) (named p .0) (c .before .before .before .single .ensures)))
     (c .closed .ensures)
 
 pub linked-spec : {M : Type 1} → statement M

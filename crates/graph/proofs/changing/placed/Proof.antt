@@ -6,7 +6,7 @@ use borrow.Author.Needs.{needs}
 use Rattle.sets.specs.Sets.{union}
 use Rattle.graph.specs.Tables.{at}
 use Rattle.graph.specs.Graph.{role-count}
-use Rattle.graph.proofs.Carrying.{place-lt, place-carried, may-close, closes-to, stored-union, joined-all, read-directs, known-single}
+use Rattle.graph.proofs.Carrying.{place-lt, place-carried, may-close, closes-to, stored-by, joined-all, read-directs, known-single}
 use Rattle.graph.proofs.changing.placed.Statement.{statement}
 use Rattle.graph.proofs.changing.placed.Tie as tie
 
@@ -81,7 +81,7 @@ closed-requires c κs =
     let a = p .args .a .0 in
     may-close (place-carried (p .args .roles) (search needs) (p .args .sets .now) a (p .args .own) (p .args .juniors) (p .args .seniors) (search needs) (search needs) (search needs) (p .pre))
     (c .before .union3 .ensures ∙ ap (union (p .args .roles)) (known-single a (named p) (c .before .before .single2 .ensures)))
-    (stored-union a (joined-all (d .draw .ensures) refl (known-single a (named p) (x .before .single .ensures)) (x .exchange-all .ensures)) (c .before .before .before .union2 .ensures) refl)
+    (stored-by union a (joined-all (d .draw .ensures) refl (known-single a (named p) (x .before .single .ensures)) (x .exchange-all .ensures)) (c .before .before .before .union2 .ensures) refl)
 
 returns : tie.Need-returns
 unfolding at
@@ -94,8 +94,8 @@ returns c =
     let directs = read-directs (p .args .roles) (p .args .sets .now) (e .before .before .senior-roles .ensures) (d .draw .ensures) (e .direct-sets .ensures) in
     closes-to (place-carried (p .args .roles) (search needs) (p .args .sets .now) a (p .args .own) (p .args .juniors) (p .args .seniors) (search needs) (search needs) (search needs) (p .pre))
     (c .before .before .union3 .ensures ∙ ap (union (p .args .roles)) (known-single a (named p) (c .before .before .before .single2 .ensures)))
-    (stored-union a directs (x .before .before .before .union .ensures) refl)
-    (stored-union a (joined-all (d .draw .ensures) refl (known-single a (named p) (x .before .single .ensures)) (x .exchange-all .ensures)) (c .before .before .before .before .union2 .ensures) refl)
+    (stored-by union a directs (x .before .before .before .union .ensures) refl)
+    (stored-by union a (joined-all (d .draw .ensures) refl (known-single a (named p) (x .before .single .ensures)) (x .exchange-all .ensures)) (c .before .before .before .before .union2 .ensures) refl)
     (c .closed .ensures)
 
 pub placed-spec : {M : Type 1} → statement M

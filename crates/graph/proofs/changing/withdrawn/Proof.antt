@@ -3,9 +3,10 @@
 use mathlib.Core.Path.{refl}
 use Prim.Native.Nat.{_<_}
 use borrow.Author.Needs.{needs}
+use Rattle.sets.specs.Sets.{difference}
 use Rattle.graph.specs.Tables.{at}
 use Rattle.graph.specs.Graph.{role-count, privilege-count}
-use Rattle.graph.proofs.Carrying.{withdraw-lt, withdraw-carried, may-close, closes-to, stored-difference, read-directs, known-single}
+use Rattle.graph.proofs.Carrying.{withdraw-lt, withdraw-carried, may-close, closes-to, stored-by, read-directs, known-single}
 use Rattle.graph.proofs.changing.withdrawn.Statement.{statement}
 use Rattle.graph.proofs.changing.withdrawn.Tie as tie
 
@@ -60,7 +61,7 @@ returns c =
     let p = d .before .before .before .before in
     let directs = read-directs (p .args .roles) (p .args .sets .now) (e .before .before .senior-roles .ensures) (d .draw .ensures) (e .direct-sets .ensures) in
     closes-to (withdraw-carried (p .args .roles) (search needs) (p .args .sets .now) (p .args .a .0) (p .args .b .0) (p .pre)) refl
-    (stored-difference (p .args .a .0) directs (c .before .before .remove .ensures) (known-single (p .args .b .0) (named p .1) refl))
+    (stored-by difference (p .args .a .0) directs (c .before .before .remove .ensures) (known-single (p .args .b .0) (named p .1) refl))
     (d .draw .ensures)
     (c .closed .ensures)
 

@@ -6,7 +6,7 @@ use Rattle.sets.specs.Sets.{member}
 use Rattle.graph.specs.Graph.{present, effective}
 use Rattle.graph.specs.Refusing.{early, input-checks, state-checks}
 use Rattle.graph.specs.Reading.{read-verdict}
-use Rattle.graph.proofs.Judging.{stops, moves-on, ends, refused-first, passed-first}
+use Rattle.graph.proofs.Judging.{ends, refused-first, then-stops, then-goes}
 use Rattle.graph.proofs.checking.judge_grant.Statement.{statement}
 use Rattle.graph.proofs.checking.judge_grant.Tie as tie
 
@@ -41,8 +41,8 @@ returns-2 c =
     let m = c .before .before in
     let b = m .before .before in
     c .refuse .ensures
-    ∙ sym (passed-first _ _ (b .before .before .before .judge-role-privilege .ensures) (b .before .enum-told .given .1)
-    ∙ stops _ _ (ap (member _) (sym (b .effective-of .ensures)) ∙ sym (m .member .ensures) ∙ c .before .if1 .taken))
+    ∙ then-stops _ _ _ (b .before .before .before .judge-role-privilege .ensures) (b .before .enum-told .given .1)
+    (ap (member _) (sym (b .effective-of .ensures)) ∙ sym (m .member .ensures) ∙ c .before .if1 .taken)
 
 returns-3 : tie.Need-returns-3
 unfolding early input-checks state-checks present effective read-verdict
@@ -50,8 +50,8 @@ returns-3 c =
     let m = c .before in
     let b = m .before .before in
     ends
-    ∙ sym (passed-first _ _ (b .before .before .before .judge-role-privilege .ensures) (b .before .enum-told .given .1)
-    ∙ moves-on _ _ (ap (member _) (sym (b .effective-of .ensures)) ∙ sym (m .member .ensures) ∙ c .if1 .left))
+    ∙ then-goes _ _ _ (b .before .before .before .judge-role-privilege .ensures) (b .before .enum-told .given .1)
+    (ap (member _) (sym (b .effective-of .ensures)) ∙ sym (m .member .ensures) ∙ c .if1 .left)
 
 pub judge-grant-spec : {M : Type 1} → statement M
 judge-grant-spec =

@@ -6,7 +6,7 @@ use mathlib.Core.Path.{sym, ap, _∙_}
 use Rattle.graph.specs.Graph.{present}
 use Rattle.graph.specs.Refusing.{early, input-checks, state-checks}
 use Rattle.graph.specs.Reading.{read-verdict}
-use Rattle.graph.proofs.Judging.{stops, moves-on, ends, refused-first, passed-first}
+use Rattle.graph.proofs.Judging.{ends, refused-first, then-stops, then-goes}
 use Rattle.graph.proofs.checking.judge_withdraw.Statement.{statement}
 use Rattle.graph.proofs.checking.judge_withdraw.Tie as tie
 
@@ -33,17 +33,13 @@ returns-2 : tie.Need-returns-2
 unfolding early input-checks state-checks present
 returns-2 c =
     let b = c .before .before in
-    c .refuse .ensures
-    ∙ sym (passed-first _ _ (b .before .before .before .judge-role-privilege .ensures) (b .before .enum-told .given .1)
-    ∙ stops _ _ (ap not (sym (b .is-direct .ensures)) ∙ c .before .if1 .taken))
+    c .refuse .ensures ∙ then-stops _ _ _ (b .before .before .before .judge-role-privilege .ensures) (b .before .enum-told .given .1) (ap not (sym (b .is-direct .ensures)) ∙ c .before .if1 .taken)
 
 returns-3 : tie.Need-returns-3
 unfolding early input-checks state-checks present read-verdict
 returns-3 c =
     let b = c .before in
-    ends
-    ∙ sym (passed-first _ _ (b .before .before .before .judge-role-privilege .ensures) (b .before .enum-told .given .1)
-    ∙ moves-on _ _ (ap not (sym (b .is-direct .ensures)) ∙ c .if1 .left))
+    ends ∙ then-goes _ _ _ (b .before .before .before .judge-role-privilege .ensures) (b .before .enum-told .given .1) (ap not (sym (b .is-direct .ensures)) ∙ c .if1 .left)
 
 pub judge-withdraw-spec : {M : Type 1} → statement M
 judge-withdraw-spec =
