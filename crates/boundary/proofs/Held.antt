@@ -22,7 +22,7 @@ use Rattle.seats.specs.Seats.{State, fresh}
 use Rattle.seats.specs.Calls.{Call, change, declare, lift, assign, unassign, ask, Answer, checks, with-graph, with-conflicts, with-seats, after, reply, settle, perform}
 use Rattle.seats.specs.Records.{Decoded, malformed, well-formed, decode, perform-decoded, step}
 use Rattle.seats.specs.Bytes.{number-at}
-use Rattle.seats.specs.Images.{Entry, Contents, distance, contents, stored-pairs, restored, entry-checks, content-checks, Loaded, loaded, not-loaded, unless-refused, load-contents, load-trailer, load, settle-load, load-over}
+use Rattle.seats.specs.Images.{least-image, end-sets, Entry, Contents, distance, contents, stored-pairs, restored, entry-checks, content-checks, Loaded, loaded, not-loaded, unless-refused, load-contents, load-trailer, load, settle-load, load-over}
 use Rattle.seats.specs.Lists.{answers, end}
 use Rattle.seats.proofs.Stores.{length-stored}
 use Rattle.boundary.specs.Block.{state-in, words-of, holding, of-state, code-of}
@@ -101,7 +101,7 @@ length-pairs (e ∷ l) t = length-pairs l (put t (e .key) (e .value)) ∙ simp l
 restored-sized : (c : Contents) → Sized (restored c)
 unfolding restored
 restored-sized c = record {
-  sets = length-stored (c .roles) (set (replicate 64 0) 1 (c .top));
+  sets = length-stored (c .roles) (end-sets (c .top));
   conflicts = length-pairs (c .conflicts) (replicate 64 0);
   seats = length-stored (c .seats) (replicate 64 0);
 }
@@ -135,7 +135,7 @@ unfolding load
 load-sized l =
     let end = length l in
     let t = trailer-sized l (number-at 4 (end - 8) l) (number-at 1 (end - 4) l) (number-at 1 (end - 3) l) (number-at 2 (end - 2) l) in
-    either-sized (ltb end 16) (not-loaded 6 0) (load-trailer l (number-at 4 (end - 8) l) (number-at 1 (end - 4) l) (number-at 1 (end - 3) l) (number-at 2 (end - 2) l)) none t
+    either-sized (ltb end least-image) (not-loaded 6 0) (load-trailer l (number-at 4 (end - 8) l) (number-at 1 (end - 4) l) (number-at 1 (end - 3) l) (number-at 2 (end - 2) l)) none t
 
 settled-sized : (s : State) {x : Loaded} → Sized s → SizedLoad x → Sized (settle-load s x .1)
 unfolding settle-load

@@ -17,7 +17,7 @@ use Rattle.graph.specs.Closing.{counts}
 use Rattle.graph.specs.Editing.{add-by-privileges, for-role, edit, changed}
 use Rattle.graph.specs.Invariants.{Formed}
 use Rattle.graph.proofs.Order.{below-max, not-above-max, edge-below}
-use Rattle.graph.proofs.Closing.{counted, count-join, count-top, closed-by}
+use Rattle.graph.proofs.Closing.{by-edge, of-top, counted, count-join, count-top, closed-by}
 use Rattle.graph.proofs.Heights.{order}
 use Rattle.graph.proofs.Drawn.{in-direct, direct-or-junior, effective-lt, below-member, beyond-empty}
 use Rattle.graph.proofs.Edits.{added}
@@ -78,13 +78,13 @@ module _ (g : Graph) (w : Formed g) (a s : ℕ) (la : 2 ≤ a) (ka : a < role-co
   unfolding edit redraw
   down t r p c u =
       elim (counted (after g (add-by-privileges a s)) t r c) [
-        | inl d ↦
+        | by-edge d ↦
             elim (in-joined t p u) [
               | inl x ↦ joined-old r p (below-member g w t r p (edge-below g t r d) x)
               | inr (inl e, _) ↦ absurd (na (subst (λ (i : ℕ). T (present g i)) e (order g (w .roles-lt) .between-present t r (edge-below g t r d) .0)))
               | inr (inr e, _) ↦ absurd (not-above-max g r (subst (λ (i : ℕ). T (below g i r)) e (edge-below g t r d)))
             ]
-        | inr (e, l, m) ↦
+        | of-top e l m ↦
             elim (in-joined t p u) [
               | inl x ↦ joined-old r p (subst (λ (i : ℕ). T (member p (effective g i))) (sym e) (below-member g w t max-role p (below-max g t (w .held p t x .0) (omega arith)) x))
               | inr (_, x) ↦ joined-new r p (inr e) x

@@ -17,7 +17,7 @@ use Rattle.sets.proofs.Members.{union-left, union-right, single-in, no-members}
 use Rattle.graph.specs.Tables.{at, table}
 use Rattle.graph.specs.Graph.{Graph, role-count, max-role, is-end, ordinary}
 use Rattle.graph.specs.Drawing.{Drawing, edge, juniors, redraw}
-use Rattle.graph.specs.Closing.{counts, gathered, close}
+use Rattle.graph.specs.Closing.{drawn-role, counts, gathered, close}
 use Rattle.graph.specs.Editing.{Change, add-by-place, remove-role, add-edge, remove-edge, for-role, edit}
 use Rattle.graph.specs.Refusing.{passed, early, input-checks, state-checks}
 use Rattle.graph.specs.Invariants.{Table}
@@ -25,7 +25,7 @@ use Rattle.graph.proofs.Tables.{at-table, length-table, table-ext, entr
 use Rattle.graph.proofs.Gathering.{gathered-cong}
 use Rattle.graph.specs.Reading.{drawn-from}
 use Rattle.graph.specs.Working.{drawing-of, JoinsLaid, Acyclic}
-use Rattle.graph.proofs.Closing.{closed-at, closed-length, counted}
+use Rattle.graph.proofs.Closing.{closed-at, closed-length, by-edge, of-top, counted, counted-height, counts-rise}
 use Rattle.graph.proofs.Heights.{order}
 use Rattle.graph.proofs.Edits.{Fits, joins-laid}
 use Rattle.graph.proofs.Refusals.{Passes, parts, passed-passes}
@@ -41,14 +41,6 @@ pub stored : (d : Drawing) (D J : List ℕ) → ((r : ℕ) → r < role-count �
 stored d D J own join =
     table-ext role-count _ (close d) (length-table role-count _) (closed-length d)
     (λ r l. at-table role-count r _ l ∙ gathered-cong (at D) (d .directs) (λ t r. member t (at J r)) (counts d) own join role-count r l ∙ sym (closed-at d r l))
-
--- A height that rises along a drawing's edges rises along its counted juniors.
-pub counts-rise : (d : Drawing) (w : JoinsLaid (d .roles) (d .joins)) (t r : ℕ) → T (counts d t r) → w .height t < w .height r
-counts-rise d w t r u =
-    elim (counted d t r u) [
-      | inl x ↦ w .falls t r x
-      | inr (e, l, m) ↦ subst (λ (i : ℕ). w .height t < w .height i) (sym e) (w .top t m l)
-    ]
 
 -- ---- one entry stored
 module _ (l : List ℕ) (whole : length l ≡ role-count) (a x : ℕ) (ka : a < role-count) where
@@ -207,7 +199,7 @@ module _ (g : Graph) (h : g .roles < 2 ^ role-count) where
 
 -- ---- MaxRole's juniors
 -- With every ordinary role put among MaxRole's juniors, the table has the counted juniors.
-pub topped : (d : Drawing) (J : List ℕ) → length J ≡ role-count → (own : ℕ) → ((t : ℕ) → member t own ≡ not (is-end t) && member t (d .roles))
+pub topped : (d : Drawing) (J : List ℕ) → length J ≡ role-count → (own : ℕ) → ((t : ℕ) → member t own ≡ drawn-role d t)
     → ((t r : ℕ) → t < role-count → r < role-count → member t (at J r) ≡ d .joins t r)
     → (t r : ℕ) → t < role-count → r < role-count → member t (at (set J max-role (union (at J max-role) own)) r) ≡ counts d t r
 unfolding counts
@@ -299,8 +291,8 @@ module _ (roles : ℕ) (h : roles < 2 ^ role-count) (J : List ℕ) (w : Table ro
   unfolding ordinary single
   senior t r u =
       elim (counted (drawing-of roles [] J) t r u) [
-        | inl x ↦ (let (a, b) = v .joins-to t r x in role a b)
-        | inr (e, _, _) ↦ top e
+        | by-edge x ↦ (let (a, b) = v .joins-to t r x in role a b)
+        | of-top e _ _ ↦ top e
       ]
     where
       top : r ≡ max-role → T (member r (union own 2))
@@ -324,6 +316,6 @@ module _ (roles : ℕ) (h : roles < 2 ^ role-count) (J : List ℕ) (w : Table ro
   -- Going down these tables ends.
   pub closable : Acyclic (union own 2) K
   closable =
-      acyclic K (v .height) (λ t r k l m. counts-rise (drawing-of roles [] J) v t r (subst T (counted-at [] t r k l) m)) (union own 2)
+      acyclic K (counted-height (drawing-of roles [] J) v) (λ t r k l m. counts-rise (drawing-of roles [] J) v t r (subst T (counted-at [] t r k l) m)) (union own 2)
       (λ r l n. no-members role-count (at K r) (entry-small r)
       (λ t m. n (senior t r (subst T (counted-at [] t r (member-lt role-count t (at K r) (entry-small r) m) l) m))))

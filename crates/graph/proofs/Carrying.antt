@@ -31,9 +31,9 @@ use Rattle.graph.proofs.Edits.{Fits}
 use Rattle.graph.proofs.Arrays.{carried, drawn-at, seniors-at, link-joins, place-joins, unlink-joins, remove-joins, altered, emptied}
 
 -- The one-member set of a number below the width.
-pub known-single : (n : ℕ) {s : ℕ} → n < role-count → s ≡ when (ltb n role-count) (single n) → s ≡ single n
+pub known-single : {w : ℕ} (n : ℕ) {s : ℕ} → n < w → s ≡ when (ltb n w) (single n) → s ≡ single n
 unfolding when
-known-single n l e = e ∙ rw (passes (ltb n role-count) (lt→ltb n role-count l))
+known-single {w} n l e = e ∙ rw (passes (ltb n w) (lt→ltb n w l))
 
 -- What the code reads of the drawn graph: the direct privileges by role number.
 pub read-directs : (roles : ℕ) (sets : List ℕ) {P : ℕ} {K E : List ℕ} → P ≡ union (difference roles 3) 2 → K ≡ table role-count (juniors (drawn-from roles sets)) → E ≡ direct-table P sets K

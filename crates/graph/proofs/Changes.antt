@@ -18,9 +18,9 @@ use Rattle.graph.specs.Closing.{counts, close}
 use Rattle.graph.specs.Editing.{Change, remove-role, remove-edge, edit, changed}
 use Rattle.graph.specs.Invariants.{Formed}
 use Rattle.graph.proofs.Order.{Edge, edge-below}
-use Rattle.graph.proofs.Closing.{Laid, counted, count-join, closed-own, closed-down, closed-formed}
-use Rattle.graph.proofs.Heights.{below-apart, ordinary-below, tall, tall-lt}
-use Rattle.graph.proofs.Drawn.{in-direct, direct-or-junior, effective-lt, below-member, closed-within}
+use Rattle.graph.proofs.Closing.{Laid, count-join, closed-own, closed-down, closed-formed}
+use Rattle.graph.proofs.Heights.{below-apart, tall, tall-lt}
+use Rattle.graph.proofs.Drawn.{in-direct, direct-or-junior, effective-lt, below-member, counted-below, closed-within}
 use Rattle.graph.proofs.Edits.{removed-below, edge-removed, left-below, role-removed}
 
 -- The drawing that a change makes.
@@ -65,11 +65,7 @@ module _ (g : Graph) (w : Formed g) where
 
     left-lies : (t r : ℕ) → T (counts (after g (remove-edge a b)) t r) → T (below g t r)
     unfolding edit redraw
-    left-lies t r c =
-        elim (counted (after g (remove-edge a b)) t r c) [
-          | inl d ↦ removed-below g (w .roles-lt) a b ab t r d
-          | inr (e, l, m) ↦ subst (λ (i : ℕ). T (below g t i)) (sym e) (ordinary-below g (w .roles-lt) t m l)
-        ]
+    left-lies = counted-below g w (after g (remove-edge a b)) (λ t m. m) (removed-below g (w .roles-lt) a b ab)
 
     -- What a role other than b held is still held: where it came through b, it comes from b or past it.
     still-held : (k p r : ℕ) → tall g (w .roles-lt) r < k → r ≢ b → T (member p (effective g r)) → T (member p (at (close (after g (remove-edge a b))) r))
@@ -152,11 +148,7 @@ module _ (g : Graph) (w : Formed g) where
 
     beside-lies : (t r : ℕ) → T (counts (after g (remove-role a b)) t r) → T (below g t r)
     unfolding edit redraw
-    beside-lies t r c =
-        elim (counted (after g (remove-role a b)) t r c) [
-          | inl x ↦ left-below g (w .roles-lt) a b t r x .2
-          | inr (e, l, m) ↦ subst (λ (i : ℕ). T (below g t i)) (sym e) (ordinary-below g (w .roles-lt) t (in-difference t (g .roles) (single a) m .0) l)
-        ]
+    beside-lies = counted-below g w (after g (remove-role a b)) (λ t m. in-difference t (g .roles) (single a) m .0) (λ t r x. left-below g (w .roles-lt) a b t r x .2)
 
     passed-on : (k p r : ℕ) → tall g (w .roles-lt) r < k → r ≢ a → (T (member p (direct g a)) → b ≡ 1) → T (member p (effective g r)) → T (member p (at (close (after g (remove-role a b))) r))
     passed-on zero p r l n f u = absurd (not-suc-le-zero l)

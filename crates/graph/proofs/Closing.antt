@@ -20,7 +20,7 @@ use Rattle.order.proofs.Drawing.{_⧺_}
 use Rattle.graph.specs.Tables.{at, table}
 use Rattle.graph.specs.Graph.{role-count, privilege-count, max-role, is-end, present, effective}
 use Rattle.graph.specs.Drawing.{Drawing}
-use Rattle.graph.specs.Closing.{counts, gathered, close}
+use Rattle.graph.specs.Closing.{drawn-role, counts, gathered, close}
 use Rattle.graph.specs.Working.{has-role, JoinsLaid}
 use Rattle.graph.specs.Invariants.{Formed}
 use Rattle.graph.proofs.Tables.{at-table, length-table, entry-in, at-end}
@@ -56,16 +56,27 @@ pub record Laid (d : Drawing) : Type 0 where
   pub directs : DirectsLaid (d .roles) (d .directs)
   pub joins : JoinsLaid (d .roles) (d .joins)
 
--- A counted junior is one by an edge, or an ordinary role under MaxRole.
-pub counted : (d : Drawing) (t r : ℕ) → T (counts d t r) → T (d .joins t r) ⊎ ((r ≡ max-role) × (2 ≤ t) × T (member t (d .roles)))
+-- The two ways in which t counts as a junior of r: by an edge, or as an ordinary role of MaxRole.
+pub data Counted (d : Drawing) (t r : ℕ) : Type 0 where
+  by-edge : T (d .joins t r) → Counted d t r
+  of-top : r ≡ max-role → 2 ≤ t → T (member t (d .roles)) → Counted d t r
+
+drawn-parts : (d : Drawing) (r : ℕ) → T (drawn-role d r) → (2 ≤ r) × T (member r (d .roles))
+drawn-parts d r t = let (n, m) = both (not (is-end r)) (member r (d .roles)) t in (not-end r (T-not (is-end r) n), m)
+
+drawn-join : (d : Drawing) (r : ℕ) → 2 ≤ r → T (member r (d .roles)) → T (drawn-role d r)
+drawn-join d r l m = join (not (is-end r)) (member r (d .roles)) (not-T (is-end r) (λ e. let k = is-end-lt r e in omega arith)) m
+
+-- The end roles are roles of every drawing.
+end-role : (R r : ℕ) → r < 2 → T (has-role R r)
+end-role R r l = or-left (is-end r) (member r R) (lt-is-end r l)
+
+pub counted : (d : Drawing) (t r : ℕ) → T (counts d t r) → Counted d t r
 unfolding counts
 counted d t r u =
-    elim (either (d .joins t r) (eqb r max-role && (not (is-end t) && member t (d .roles))) u) [
-      | inl x ↦ inl x
-      | inr x ↦ (
-          let (e, y) = both (eqb r max-role) (not (is-end t) && member t (d .roles)) x in
-          let (n, m) = both (not (is-end t)) (member t (d .roles)) y in
-          inr (test-equal e, not-end t (T-not (is-end t) n), m))
+    elim (either (d .joins t r) (eqb r max-role && drawn-role d t) u) [
+      | inl x ↦ by-edge x
+      | inr x ↦ (let (e, o) = both (eqb r max-role) (drawn-role d t) x in let (l, m) = drawn-parts d t o in of-top (test-equal e) l m)
     ]
 
 pub count-join : (d : Drawing) (t r : ℕ) → T (d .joins t r) → T (counts d t r)
@@ -74,9 +85,19 @@ count-join d t r u = or-left (d .joins t r) _ u
 
 pub count-top : (d : Drawing) (t : ℕ) → 2 ≤ t → T (member t (d .roles)) → T (counts d t max-role)
 unfolding counts
-count-top d t l m =
-    or-right (d .joins t max-role) (not (is-end t) && member t (d .roles))
-    (join (not (is-end t)) (member t (d .roles)) (not-T (is-end t) (λ e. let k = is-end-lt t e in omega arith)) m)
+count-top d t l m = or-right (d .joins t max-role) (drawn-role d t) (drawn-join d t l m)
+
+-- Where a height rises along a drawing's edges, one rises along its counted juniors.
+pub counted-height : (d : Drawing) → JoinsLaid (d .roles) (d .joins) → ℕ → ℕ
+counted-height d w = w .height
+
+pub counts-rise : (d : Drawing) (w : JoinsLaid (d .roles) (d .joins)) (t r : ℕ) → T (counts d t r) → counted-height d w t < counted-height d w r
+unfolding counted-height
+counts-rise d w t r u =
+    elim (counted d t r u) [
+      | by-edge x ↦ w .falls t r x
+      | of-top e l m ↦ subst (λ (i : ℕ). w .height t < w .height i) (sym e) (w .top t m l)
+    ]
 
 has-role-lt : (R r : ℕ) → R < 2 ^ role-count → T (has-role R r) → r < role-count
 has-role-lt R r h t =
@@ -86,34 +107,30 @@ module _ (d : Drawing) (w : Laid d) where
   counts-from : (t r : ℕ) → T (counts d t r) → t < role-count
   counts-from t r u =
       elim (counted d t r u) [
-        | inl x ↦ has-role-lt (d .roles) t (w .roles-lt) (w .joins .joins-from t r x)
-        | inr (_, _, m) ↦ member-lt role-count t (d .roles) (w .roles-lt) m
+        | by-edge x ↦ has-role-lt (d .roles) t (w .roles-lt) (w .joins .joins-from t r x)
+        | of-top _ _ m ↦ member-lt role-count t (d .roles) (w .roles-lt) m
       ]
 
   counts-to : (t r : ℕ) → T (counts d t r) → T (has-role (d .roles) r) × (1 ≤ r)
   counts-to t r u =
       elim (counted d t r u) [
-        | inl x ↦ w .joins .joins-to t r x
-        | inr (e, _, _) ↦ subst (λ (i : ℕ). T (has-role (d .roles) i) × (1 ≤ i)) (sym e) (or-left (is-end max-role) (member max-role (d .roles)) (lt-is-end max-role (omega arith)), omega arith)
+        | by-edge x ↦ w .joins .joins-to t r x
+        | of-top e _ _ ↦ (end-role (d .roles) r (omega arith), omega arith)
       ]
 
-  counts-fall : (t r : ℕ) → t < role-count → r < role-count → T (counts d t r) → w .joins .height t < w .joins .height r
-  counts-fall t r _ _ u =
-      elim (counted d t r u) [
-        | inl x ↦ w .joins .falls t r x
-        | inr (e, l, m) ↦ subst (λ (i : ℕ). w .joins .height t < w .joins .height i) (sym e) (w .joins .top t m l)
-      ]
+  counts-fall : (t r : ℕ) → t < role-count → r < role-count → T (counts d t r) → counted-height d (w .joins) t < counted-height d (w .joins) r
+  counts-fall t r _ _ u = counts-rise d (w .joins) t r u
 
   -- A role's closed set is its direct privileges joined with the closed sets of its juniors.
   pub closed-equation : (r : ℕ) → r < role-count → at (close d) r ≡ union (d .directs r) (gather role-count (λ t. counts d t r) (at (close d)))
   closed-equation r l =
       closed-at d r l
-      ∙ equation (d .directs) (counts d) (w .joins .height) counts-fall r l
+      ∙ equation (d .directs) (counts d) (counted-height d (w .joins)) counts-fall r l
       ∙ ap (union (d .directs r)) (gather-cong role-count (λ t. counts d t r) (λ t. counts d t r) _ (at (close d)) (λ i _. refl) (λ t h _. sym (closed-at d t h)))
 
   -- Whatever solves that equation is what closing gives.
   pub closed-unique : (F : ℕ → ℕ) → ((r : ℕ) → r < role-count → F r ≡ union (d .directs r) (gather role-count (λ t. counts d t r) F)) → (r : ℕ) → r < role-count → at (close d) r ≡ F r
-  closed-unique F s r l = closed-at d r l ∙ unique (d .directs) (counts d) (w .joins .height) counts-fall F s r l
+  closed-unique F s r l = closed-at d r l ∙ unique (d .directs) (counts d) (counted-height d (w .joins)) counts-fall F s r l
 
   -- Sets that hold what is direct and what juniors hold, and nothing else, are what closing gives.
   pub closed-by : (F : ℕ → ℕ) → ((r : ℕ) → F r < 2 ^ privilege-count)
@@ -162,7 +179,7 @@ module _ (d : Drawing) (w : Laid d) where
 
   -- A privilege is in a role's closed set exactly when it is direct in that role, or in one from which counted edges lead to it.
   pub closed-member : (p r : ℕ) → r < role-count → T (member p (at (close d) r)) ↔ ((t : ℕ) × T (member p (d .directs t)) × ((t ≡ r) ⊎ Path (λ u v. T (counts d u v)) t r))
-  closed-member p r l = (find (suc (w .joins .height r)) r l (lt-suc-self _), back)
+  closed-member p r l = (find (suc (counted-height d (w .joins) r)) r l (lt-suc-self _), back)
     where
       Reached : ℕ → Type 0
       Reached r = (t : ℕ) × T (member p (d .directs t)) × ((t ≡ r) ⊎ Path (λ u v. T (counts d u v)) t r)
@@ -171,7 +188,7 @@ module _ (d : Drawing) (w : Laid d) where
       on t r c (s, x, inl e) = (s, x, inr (subst (λ (i : ℕ). Path (λ u v. T (counts d u v)) i r) (sym e) (last c)))
       on t r c (s, x, inr q) = (s, x, inr (q ⧺ last c))
 
-      find : (k r : ℕ) → r < role-count → w .joins .height r < k → T (member p (at (close d) r)) → Reached r
+      find : (k r : ℕ) → r < role-count → counted-height d (w .joins) r < k → T (member p (at (close d) r)) → Reached r
       find zero r l h u = absurd (not-suc-le-zero h)
       find (suc k) r l h u =
           elim (closed-up p r l u) [

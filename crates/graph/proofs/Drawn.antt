@@ -21,7 +21,7 @@ use Rattle.graph.specs.Invariants.{Formed}
 use Rattle.graph.proofs.Tables.{table-ext, entry-in, at-end}
 use Rattle.graph.proofs.Order.{Edge, from-min, to-max, inside, present-cases, below-cases, edge-below, path-iff-below}
 use Rattle.graph.proofs.Heights.{order, ordinary-below, tall, tall-lt, edges-laid}
-use Rattle.graph.proofs.Closing.{DirectsLaid, Laid, counted, count-join, closed-length, closed-by, closed-member}
+use Rattle.graph.proofs.Closing.{DirectsLaid, Laid, by-edge, of-top, counted, count-join, closed-length, closed-by, closed-member}
 
 -- p is direct in r, or in a role from which a path leads to r.
 abbrev pub Reached : Graph → ℕ → ℕ → Type 0
@@ -74,6 +74,15 @@ module _ (g : Graph) (w : Formed g) where
   unfolding redraw
   laid-drawing = record { roles-lt = w .roles-lt; roles-ordinary = w .roles-ordinary; directs = direct-laid; joins = edges-laid g (w .roles-lt) }
 
+  -- Where a drawing's roles are roles of g and its edges lie in the order of g, its counted juniors lie below.
+  pub counted-below : (d : Drawing) → ((t : ℕ) → T (member t (d .roles)) → T (member t (g .roles))) → ((t r : ℕ) → T (d .joins t r) → T (below g t r))
+      → (t r : ℕ) → T (counts d t r) → T (below g t r)
+  counted-below d old lies t r c =
+      elim (counted d t r c) [
+        | by-edge x ↦ lies t r x
+        | of-top e l m ↦ subst (λ (i : ℕ). T (below g t i)) (sym e) (ordinary-below g (w .roles-lt) t (old t m) l)
+      ]
+
   -- Closing the drawn graph gives the sets that it was drawn from.
   pub reclosed : (r : ℕ) → r < role-count → at (close (redraw g)) r ≡ effective g r
   unfolding redraw
@@ -81,11 +90,7 @@ module _ (g : Graph) (w : Formed g) where
       closed-by (redraw g) laid-drawing (effective g) effective-lt
       (λ r p u. elim (direct-or-junior g p r u) [ inl x ↦ inl x | inr (t, d, x) ↦ inr (t, count-join (redraw g) t r d, x) ])
       (λ r p u. in-direct g p r u)
-      (λ t r p c u. below-member t r p
-      (elim (counted (redraw g) t r c) [
-        | inl d ↦ edge-below g t r d
-        | inr (e, _, m) ↦ subst (λ (i : ℕ). T (below g t i)) (sym e) (ordinary-below g (w .roles-lt) t m (w .roles-ordinary t m))
-      ]) u)
+      (λ t r p c u. below-member t r p (counted-below (redraw g) (λ t m. m) (edge-below g) t r c) u)
 
   pub reclosed-sets : close (redraw g) ≡ g .sets
   unfolding effective

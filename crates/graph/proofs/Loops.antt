@@ -23,42 +23,42 @@ use Rattle.graph.specs.Graph.{role-count}
 use Rattle.graph.specs.Tables.{at, table}
 use Rattle.graph.proofs.Tables.{length-table, at-table, table-ext}
 
--- What is left to visit of the members of `all`.
-pub record Left (all rest : ℕ) : Type 0 where
-  pub small : all < 2 ^ role-count
-  pub fits : rest < 2 ^ role-count
+-- What is left to visit of the members of `all`, a set of w digits.
+pub record Left (w all rest : ℕ) : Type 0 where
+  pub small : all < 2 ^ w
+  pub fits : rest < 2 ^ w
   pub within : (n : ℕ) → T (member n rest) → T (member n all)
 
-pub left-all : (all : ℕ) → all < 2 ^ role-count → Left all all
-left-all all h = record { small = h; fits = h; within = λ n m. m }
+pub left-all : (w all : ℕ) → all < 2 ^ w → Left w all all
+left-all w all h = record { small = h; fits = h; within = λ n m. m }
 
-module _ {all rest : ℕ} (l : Left all rest) (some : rest ≢ 0) where
+module _ {w all rest : ℕ} (l : Left w all rest) (some : rest ≢ 0) where
   -- The lowest member left is a place of a table.
-  pub left-lowest : {n : ℕ} → n ≡ lowest-member role-count rest → n < role-count
-  left-lowest e = subst (λ (i : ℕ). i < role-count) (sym e) (lowest-below role-count rest (l .fits) some)
+  pub left-lowest : {n : ℕ} → n ≡ lowest-member w rest → n < w
+  left-lowest e = subst (λ (i : ℕ). i < w) (sym e) (lowest-below w rest (l .fits) some)
 
-  pub left-falls : {next : ℕ} → next ≡ without-lowest role-count rest → next < rest
-  left-falls e = subst (λ (i : ℕ). i < rest) (sym e) (next-falls role-count rest (l .fits) some)
+  pub left-falls : {next : ℕ} → next ≡ without-lowest w rest → next < rest
+  left-falls e = subst (λ (i : ℕ). i < rest) (sym e) (next-falls w rest (l .fits) some)
 
   -- The lowest member left, as a set.
-  pub left-alone : {one : ℕ} → one ≡ lowest-alone role-count rest → {n : ℕ} → n ≡ lowest-member role-count rest → one ≡ single n
+  pub left-alone : {one : ℕ} → one ≡ lowest-alone w rest → {n : ℕ} → n ≡ lowest-member w rest → one ≡ single n
   unfolding lowest-alone when
   left-alone e {n} p =
-      let m = lowest-member role-count rest in
-      e ∙ rw (passes (ltb m role-count) (lt→ltb m role-count (left-lowest refl))) (ap single (sym p))
+      let m = lowest-member w rest in
+      e ∙ rw (passes (ltb m w) (lt→ltb m w (left-lowest refl))) (ap single (sym p))
 
-  pub left-next : Left all (without-lowest role-count rest)
-  left-next = record { small = l .small; fits = next-lt role-count rest (l .fits); within = λ n m. l .within n (next-within role-count rest n m) }
+  pub left-next : Left w all (without-lowest w rest)
+  left-next = record { small = l .small; fits = next-lt w rest (l .fits); within = λ n m. l .within n (next-within w rest n m) }
 
   -- The lowest member left is not visited yet.
-  left-unseen : {n : ℕ} → n ≡ lowest-member role-count rest → T (visited all rest n) → ⊥
+  left-unseen : {n : ℕ} → n ≡ lowest-member w rest → T (visited all rest n) → ⊥
   unfolding visited
   left-unseen {n} e t =
       T-not (member n rest) (both (member n all) (not (member n rest)) t .1)
-      (subst (λ (i : ℕ). T (member i rest)) (sym e) (lowest-in role-count rest (l .fits) some))
+      (subst (λ (i : ℕ). T (member i rest)) (sym e) (lowest-in w rest (l .fits) some))
 
-  left-visited : (n : ℕ) → visited all (without-lowest role-count rest) n ≡ visited all rest n || eqb n (lowest-member role-count rest)
-  left-visited = visited-next role-count all rest (l .fits) some (l .within)
+  left-visited : (n : ℕ) → visited all (without-lowest w rest) n ≡ visited all rest n || eqb n (lowest-member w rest)
+  left-visited = visited-next w all rest (l .fits) some (l .within)
 
 -- Where nothing is left, all members are visited.
 left-over : (all : ℕ) {rest : ℕ} → rest ≡ 0 → (n : ℕ) → visited all rest n ≡ member n all
@@ -66,12 +66,12 @@ left-over all z n = ap (λ (r : ℕ). visited all r n) z ∙ visited-all all n
 
 -- ---- collecting the members that pass
 pub record Collecting (f : ℕ → Bool) (all rest acc : ℕ) : Type 0 where
-  pub left : Left all rest
+  pub left : Left role-count all rest
   pub below : acc < 2 ^ role-count
   pub got : Collected f all rest acc
 
 pub collecting-none : (f : ℕ → Bool) (all : ℕ) → all < 2 ^ role-count → Collecting f all all 0
-collecting-none f all h = record { left = left-all all h; below = pow-pos role-count; got = collect-none f all }
+collecting-none f all h = record { left = left-all role-count all h; below = pow-pos role-count; got = collect-none f all }
 
 -- One turn puts n, the lowest member left, in where it passes.
 pub collecting-next : {f : ℕ → Bool} {all rest acc : ℕ} → Collecting f all rest acc → rest ≢ 0
@@ -92,11 +92,11 @@ collecting-done {f} {all} {rest} {acc} c z =
 
 -- ---- gathering the sets of the members
 pub record Gathering (f : ℕ → ℕ) (all rest acc : ℕ) : Type 0 where
-  pub left : Left all rest
+  pub left : Left role-count all rest
   pub got : Gathered f all rest acc
 
 pub gathering-none : (f : ℕ → ℕ) (all : ℕ) → all < 2 ^ role-count → Gathering f all all 0
-gathering-none f all h = record { left = left-all all h; got = gather-none f all }
+gathering-none f all h = record { left = left-all role-count all h; got = gather-none f all }
 
 -- One turn puts the set of n, the lowest member left, in.
 pub gathering-next : {f : ℕ → ℕ} {all rest acc : ℕ} → Gathering f all rest acc → rest ≢ 0
@@ -128,13 +128,13 @@ gathering-done {f} {all} {rest} {acc} c z =
 -- ---- filling a table at the members
 -- A table with f at the visited members, and as it was elsewhere.
 pub record Filling (f old : ℕ → ℕ) (all rest : ℕ) (l : List ℕ) : Type 0 where
-  pub left : Left all rest
+  pub left : Left role-count all rest
   pub whole : length l ≡ role-count
   pub got : (i : ℕ) → at l i ≡ cond (visited all rest i) (f i) (old i)
 
 pub filling-none : (f old : ℕ → ℕ) (all : ℕ) (l : List ℕ) → all < 2 ^ role-count → length l ≡ role-count → ((i : ℕ) → at l i ≡ old i) → Filling f old all all l
 filling-none f old all l h w e = record {
-  left = left-all all h;
+  left = left-all role-count all h;
   whole = w;
   got = λ i. e i ∙ sym (rw (fails (visited all all i) (visited-none all i)));
 }
@@ -218,13 +218,13 @@ unfoldable pub tally : (ℕ → ℕ) → ℕ → ℕ → ℕ → ℕ
 tally f all rest i = cond (visited all rest i) (f i) 0
 
 pub record Summing (f : ℕ → ℕ) (all rest acc : ℕ) : Type 0 where
-  pub left : Left all rest
+  pub left : Left role-count all rest
   pub got : acc ≡ sum role-count (tally f all rest)
 
 pub summing-none : (f : ℕ → ℕ) (all : ℕ) → all < 2 ^ role-count → Summing f all all 0
 unfolding tally
 summing-none f all h = record {
-  left = left-all all h;
+  left = left-all role-count all h;
   got = sym (sum-none role-count (tally f all all) (λ i. rw (fails (visited all all i) (visited-none all i))));
 }
 

@@ -101,7 +101,7 @@ all-in r l = collect-in r role-count (λ i. true) l tt
 
 -- Every role that is not in rest is done.
 pub record Doing (directs juniors : List ℕ) (present : ℕ) (sets : List ℕ) (done rest : ℕ) : Type 0 where
-  pub left : Left present rest
+  pub left : Left role-count present rest
   pub memo : Memo directs juniors done sets
   pub seen : (r : ℕ) → r < role-count → (T (member r rest) → ⊥) → T (member r done)
 
@@ -109,7 +109,7 @@ pub record Doing (directs juniors : List ℕ) (present : ℕ) (sets : List ℕ) 
 pub doing-none : {directs juniors sets : List ℕ} {present done : ℕ} → Acyclic present juniors → present < 2 ^ role-count
     → length sets ≡ role-count → sets ≡ directs → done ≡ difference all-roles present → Doing directs juniors present sets done present
 doing-none {directs} {juniors} {present = present} w h k e f = record {
-  left = left-all present h;
+  left = left-all role-count present h;
   memo = record {
     whole = k;
     right = λ r m.
@@ -125,7 +125,7 @@ pub doing-next : {directs juniors sets then : List ℕ} {present done rest t mor
     → ((n : ℕ) → T (member n done) → T (member n more)) → T (member t more) → next ≡ without-lowest role-count rest
     → Doing directs juniors present then more next
 doing-next {present = present} {rest = rest} {t = t} {more = more} {next = next} w some e memo kept m g = record {
-  left = subst (Left present) (sym g) (left-next (w .left) some);
+  left = subst (Left role-count present) (sym g) (left-next (w .left) some);
   memo = memo;
   seen = λ r l o.
       elim (ℕ-discrete r t) [

@@ -46,65 +46,65 @@ lowest-bound s =
     ]
 
 -- ---- two sets
--- Some role or privilege is in both sets.
-abbrev has-common : ℕ → ℕ → Bool
-has-common s t = any role-count (λ n. member n s && member n t)
+-- Some number below w is in both sets.
+abbrev has-common : ℕ → ℕ → ℕ → Bool
+has-common w s t = any w (λ n. member n s && member n t)
 
-common-test : (s t : ℕ) → s < 2 ^ role-count → has-common s t ≡ not (eqb (intersection s t) 0)
-common-test s t h = same-test (has-common s t) (not (eqb (intersection s t) 0)) there back
+common-test : (w s t : ℕ) → s < 2 ^ w → has-common w s t ≡ not (eqb (intersection s t) 0)
+common-test w s t h = same-test (has-common w s t) (not (eqb (intersection s t) 0)) there back
   where
-    there : T (has-common s t) → T (not (eqb (intersection s t) 0))
+    there : T (has-common w s t) → T (not (eqb (intersection s t) 0))
     there c =
-        let (n, l, x) = any-some role-count (λ n. member n s && member n t) c in
+        let (n, l, x) = any-some w (λ n. member n s && member n t) c in
         let (a, b) = both (member n s) (member n t) x in
         not-T (eqb (intersection s t) 0) (λ z. in-empty n (subst (λ (i : ℕ). T (member n i)) (test-equal z) (intersection-in n s t a b)))
 
-    back : T (not (eqb (intersection s t) 0)) → T (has-common s t)
+    back : T (not (eqb (intersection s t) 0)) → T (has-common w s t)
     back d =
-        so (has-common s t)
+        so (has-common w s t)
         (λ u.
         T-not (eqb (intersection s t) 0) d
-        (equal-test (no-members role-count (intersection s t) (intersection-lt role-count s t h)
+        (equal-test (no-members w (intersection s t) (intersection-lt w s t h)
         (λ n m.
         let (a, b) = in-intersection n s t m in
-        T-not (has-common s t) u (some-any role-count (λ n. member n s && member n t) n (member-lt role-count n s h a) (join (member n s) (member n t) a b))))))
+        T-not (has-common w s t) u (some-any w (λ n. member n s && member n t) n (member-lt w n s h a) (join (member n s) (member n t) a b))))))
 
 -- ---- a search
 -- A search among `all` has `rest` left: what was visited lies below it, and none of that passes.
-pub record Search (f : ℕ → Bool) (all rest : ℕ) : Type 0 where
-  pub left : Left all rest
+pub record Search (w : ℕ) (f : ℕ → Bool) (all rest : ℕ) : Type 0 where
+  pub left : Left w all rest
   pub searched : Searched f all rest
   pub above : (n m : ℕ) → T (visited all rest n) → T (member m rest) → n < m
 
-pub starts : (f : ℕ → Bool) (all : ℕ) → all < 2 ^ role-count → Search f all all
-starts f all h = record { left = left-all all h; searched = search-none f all; above = λ n m v. absurd (visited-none all n v) }
+pub starts : (w : ℕ) (f : ℕ → Bool) (all : ℕ) → all < 2 ^ w → Search w f all all
+starts w f all h = record { left = left-all w all h; searched = search-none f all; above = λ n m v. absurd (visited-none all n v) }
 
 -- The lowest member left, r, is visited.
-module _ {f : ℕ → Bool} {all rest : ℕ} (s : Search f all rest) (some : rest ≢ 0) {r : ℕ} (e : r ≡ lowest-member role-count rest) where
-  pub visit-lt : r < role-count
+module _ {w : ℕ} {f : ℕ → Bool} {all rest : ℕ} (s : Search w f all rest) (some : rest ≢ 0) {r : ℕ} (e : r ≡ lowest-member w rest) where
+  pub visit-lt : r < w
   visit-lt = left-lowest (s .left) some e
 
   visit-rest : T (member r rest)
-  visit-rest = rw e (lowest-in role-count rest (s .left .fits) some)
+  visit-rest = rw e (lowest-in w rest (s .left .fits) some)
 
   visit-in : T (member r all)
   visit-in = s .left .within r visit-rest
 
   -- It passes, and is the lowest that does.
-  pub hit : f r ≡ true → r ≡ lowest role-count (λ n. member n all && f n)
-  hit t = e ∙ sym (search-found f role-count all rest (s .left .fits) some (s .left .within) (s .searched) (ap f (sym e) ∙ t))
+  pub hit : f r ≡ true → r ≡ lowest w (λ n. member n all && f n)
+  hit t = e ∙ sym (search-found f w all rest (s .left .fits) some (s .left .within) (s .searched) (ap f (sym e) ∙ t))
 
-  pub any-hit : f r ≡ true → true ≡ any role-count (λ n. member n all && f n)
+  pub any-hit : f r ≡ true → true ≡ any w (λ n. member n all && f n)
   any-hit t =
-      sym (passes (any role-count (λ n. member n all && f n)) (some-any role-count (λ n. member n all && f n) r visit-lt (join (member r all) (f r) visit-in (rw t tt))))
+      sym (passes (any w (λ n. member n all && f n)) (some-any w (λ n. member n all && f n) r visit-lt (join (member r all) (f r) visit-in (rw t tt))))
 
   -- What is left after it.
-  module _ {next : ℕ} (d : next ≡ without-lowest role-count rest) where
+  module _ {next : ℕ} (d : next ≡ without-lowest w rest) where
     next-test : (n : ℕ) → member n next ≡ member n rest && not (eqb n r)
-    next-test n = rw (d, e) (member-next role-count rest n)
+    next-test n = rw (d, e) (member-next w rest n)
 
-    next-lt : next < 2 ^ role-count
-    next-lt = rw d (Walks.next-lt role-count rest (s .left .fits))
+    next-lt : next < 2 ^ w
+    next-lt = rw d (Walks.next-lt w rest (s .left .fits))
 
     pub falls : next < rest
     falls = left-falls (s .left) some d
@@ -119,7 +119,7 @@ module _ {f : ℕ → Bool} {all rest : ℕ} (s : Search f all rest) (some : res
           | yes l ↦ l
           | no u ↦
               elim (decLt n r) [
-                | yes l ↦ absurd (lowest-of role-count rest n (omega arith) a)
+                | yes l ↦ absurd (lowest-of w rest n (omega arith) a)
                 | no v ↦ (let q : n ≡ r = omega arith in absurd (T-not (eqb n r) b (equal-test q)))
               ]
         ]
@@ -132,7 +132,7 @@ module _ {f : ℕ → Bool} {all rest : ℕ} (s : Search f all rest) (some : res
         (not-T (member n rest) (λ m. v (subst T (sym (next-test n)) (join (member n rest) (not (eqb n r)) m (not-T (eqb n r) (λ t. u (test-equal t)))))))
 
     next-visited : (n : ℕ) → visited all next n ≡ visited all rest n || eqb n r
-    next-visited n = rw (d, e) (visited-next role-count all rest (s .left .fits) some (s .left .within) n)
+    next-visited n = rw (d, e) (visited-next w all rest (s .left .fits) some (s .left .within) n)
 
     -- What is left after it are the members above it.
     next-higher : (n : ℕ) → member n next ≡ member n all && ltb r n
@@ -151,10 +151,10 @@ module _ {f : ℕ → Bool} {all rest : ℕ} (s : Search f all rest) (some : res
             ]
 
     -- It does not pass, and the search goes on.
-    pub goes-on : f r ≡ false → Search f all next
+    pub goes-on : f r ≡ false → Search w f all next
     goes-on t = record {
       left = record { small = s .left .small; fits = next-lt; within = next-inside };
-      searched = rw d (search-next f role-count all rest (s .left .fits) some (s .left .within) (s .searched) (ap f (sym e) ∙ t));
+      searched = rw d (search-next f w all rest (s .left .fits) some (s .left .within) (s .searched) (ap f (sym e) ∙ t));
       above = λ n m v x.
           elim (either (visited all rest n) (eqb n r) (subst T (next-visited n) v)) [
             | inl w ↦ s .above n m w (both (member m rest) (not (eqb m r)) (subst T (next-test m) x) .0)
@@ -163,15 +163,15 @@ module _ {f : ℕ → Bool} {all rest : ℕ} (s : Search f all rest) (some : res
     }
 
 -- Nothing is left, and nothing passes.
-module _ {f : ℕ → Bool} {all rest : ℕ} (s : Search f all rest) (z : rest ≡ 0) where
-  pub miss : role-count ≡ lowest role-count (λ n. member n all && f n)
-  miss = sym (search-done f role-count all (subst (λ (i : ℕ). Searched f all i) z (s .searched)))
+module _ {w : ℕ} {f : ℕ → Bool} {all rest : ℕ} (s : Search w f all rest) (z : rest ≡ 0) where
+  pub miss : w ≡ lowest w (λ n. member n all && f n)
+  miss = sym (search-done f w all (subst (λ (i : ℕ). Searched f all i) z (s .searched)))
 
-  pub any-miss : false ≡ any role-count (λ n. member n all && f n)
+  pub any-miss : false ≡ any w (λ n. member n all && f n)
   any-miss =
       sym
-      (fails (any role-count (λ n. member n all && f n))
-      (λ t. let l = lowest-lt role-count (λ n. member n all && f n) t in let e = miss in omega arith))
+      (fails (any w (λ n. member n all && f n))
+      (λ t. let l = lowest-lt w (λ n. member n all && f n) t in let e = miss in omega arith))
 
 -- ---- ordinary roles
 -- A search among the ordinary roles.
@@ -196,7 +196,7 @@ module _ (g : Graph) where
       (join (ordinary g s && not (eqb r s)) (eqb (effective g r) (effective g s)) (join (ordinary g s) (not (eqb r s)) o (not-T (eqb r s) (λ t. d (test-equal t)))) (equal-test e))
 
   -- Where no role before r has a twin, r has one only among those left after it.
-  module _ {rest : ℕ} (s : Search (has-twin g) (difference (g .roles) 3) rest) (some : rest ≢ 0) {r : ℕ} (e : r ≡ lowest-member role-count rest)
+  module _ {rest : ℕ} (s : Search role-count (has-twin g) (difference (g .roles) 3) rest) (some : rest ≢ 0) {r : ℕ} (e : r ≡ lowest-member role-count rest)
       {next : ℕ} (d : next ≡ without-lowest role-count rest) where
     ordinary-in : (n : ℕ) → T (member n (difference (g .roles) 3)) → T (ordinary g n)
     ordinary-in n m = subst T (ordinary-member g n) m
@@ -228,23 +228,23 @@ module _ (g : Graph) where
 
 -- ---- declared pairs
 -- A member of the set is in conflict with p, as the higher of the two.
-abbrev pub has-partner : List ℕ → ℕ → ℕ → Bool
-has-partner C all p = any role-count (λ q. member q all && conflict C p q)
+abbrev pub has-partner : ℕ → List ℕ → ℕ → ℕ → Bool
+has-partner w C all p = any w (λ q. member q all && conflict C p q)
 
 -- The partners of p are among those left after it.
-module _ (C : List ℕ) {all rest : ℕ} (s : Search (has-partner C all) all rest) (some : rest ≢ 0) {p : ℕ} (e : p ≡ lowest-member role-count rest)
-    {next : ℕ} (d : next ≡ without-lowest role-count rest) where
-  partner-test : has-partner C all p ≡ not (eqb (intersection next (at C p)) 0)
+module _ (C : List ℕ) {w all rest : ℕ} (s : Search w (has-partner w C all) all rest) (some : rest ≢ 0) {p : ℕ} (e : p ≡ lowest-member w rest)
+    {next : ℕ} (d : next ≡ without-lowest w rest) where
+  partner-test : has-partner w C all p ≡ not (eqb (intersection next (at C p)) 0)
   unfolding conflict
   partner-test =
-      any-cong role-count (λ q. member q all && conflict C p q) (λ q. member q next && member q (at C p))
+      any-cong w (λ q. member q all && conflict C p q) (λ q. member q next && member q (at C p))
       (λ q _. and-regroup (member q all) (ltb p q) (member q (at C p)) ∙ ap (λ (b : Bool). b && member q (at C p)) (sym (next-higher s some e d q)))
-      ∙ common-test next (at C p) (next-lt s some e d)
+      ∙ common-test w next (at C p) (next-lt s some e d)
 
-  pub partner-found : intersection next (at C p) ≢ 0 → has-partner C all p ≡ true
+  pub partner-found : intersection next (at C p) ≢ 0 → has-partner w C all p ≡ true
   partner-found h = partner-test ∙ ap not (ne-eqb (intersection next (at C p)) 0 h)
 
-  pub partner-none : intersection next (at C p) ≡ 0 → has-partner C all p ≡ false
+  pub partner-none : intersection next (at C p) ≡ 0 → has-partner w C all p ≡ false
   partner-none z = partner-test ∙ ap not (eq-eqb (intersection next (at C p)) 0 z)
 
 -- ---- circles

@@ -16,7 +16,7 @@ use Rattle.graph.proofs.Loops.{Left, Filling, filling-done}
 use Rattle.graph.proofs.Drawings.{table-cong}
 
 -- The role that a turn takes is one of those left.
-pub left-in : {all rest n : ℕ} → Left all rest → rest ≢ 0 → n ≡ lowest-member role-count rest → T (member n rest)
+pub left-in : {all rest n : ℕ} → Left role-count all rest → rest ≢ 0 → n ≡ lowest-member role-count rest → T (member n rest)
 left-in {rest = rest} l some e = subst (λ (i : ℕ). T (member i rest)) (sym e) (lowest-in role-count rest (l .fits) some)
 
 -- Its entry is the old one still.

@@ -8,9 +8,13 @@ use Rattle.graph.specs.Tables.{at, table}
 use Rattle.graph.specs.Graph.{role-count, max-role, is-end}
 use Rattle.graph.specs.Drawing.{Drawing}
 
+-- r is an ordinary role of the drawing.
+abbrev pub drawn-role : Drawing → ℕ → Bool
+drawn-role d r = not (is-end r) && member r (d .roles)
+
 -- t counts as a junior of r: by an edge, or as an ordinary role of MaxRole.
 unfoldable pub counts : Drawing → ℕ → ℕ → Bool
-counts d t r = d .joins t r || (eqb r max-role && (not (is-end t) && member t (d .roles)))
+counts d t r = d .joins t r || (eqb r max-role && drawn-role d t)
 
 -- A role's direct privileges joined with the sets of its juniors, down to n roles; without a circle of juniors role-count is deep enough for every role.
 unfoldable pub gathered : (ℕ → ℕ) → (ℕ → ℕ → Bool) → ℕ → ℕ → ℕ

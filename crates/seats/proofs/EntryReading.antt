@@ -14,6 +14,7 @@ use lib.Dec.{T, leb, leb→le, le→leb, ltb, ltb→lt}
 use Rattle.sets.specs.Sets.{member, single, union}
 use Rattle.sets.proofs.Tests.{both, join}
 use Rattle.sets.proofs.Laws.{member-union, equal-members, union-empty}
+use Rattle.graph.specs.Graph.{privilege-count}
 use Rattle.graph.specs.Tables.{at, put}
 use Rattle.seats.specs.Bytes.{number-at, Bytes}
 use Rattle.seats.specs.Images.{Entry, entries-at, keys, stored, stored-pairs, pair-place}
@@ -135,13 +136,13 @@ pub record PairsReading (before : List ℕ) (whole : List Entry) (floor : ℕ) (
 pub pairs-start : (before : List ℕ) (l : List Entry) → PairsReading before l 0 before l
 pairs-start before l = record { tested = refl; filled = refl }
 
--- The privileges of a conflict that passes ascend and are below 64.
-pub pair-lt : (floor a b : ℕ) → leb floor (pair-place (entry-of a b)) && paired (entry-of a b) ≡ true → (a < b) × (b < 64)
+-- The privileges of a conflict that passes ascend and are privileges.
+pub pair-lt : (floor a b : ℕ) → leb floor (pair-place (entry-of a b)) && paired (entry-of a b) ≡ true → (a < b) × (b < privilege-count)
 unfolding paired
 pair-lt floor a b t =
     let (x, y) = both (leb floor (pair-place (entry-of a b))) (paired (entry-of a b)) (subst T (sym t) tt) in
-    let (p, q) = both (ltb a b) (ltb b 64) y in
-    (ltb→lt a b p, ltb→lt b 64 q)
+    let (p, q) = both (ltb a b) (ltb b privilege-count) y in
+    (ltb→lt a b p, ltb→lt b privilege-count q)
 
 module _ {before : List ℕ} {whole : List Entry} {floor : ℕ} {values : List ℕ} where
   pub pairs-next : {a b : ℕ} {l : List Entry} → PairsReading before whole floor values (entry-of a b ∷ l)

@@ -33,7 +33,7 @@ added-role roles a r n =
     ap (λ (x : Bool). not (is-end r) && x) (member-union r roles (single a) ∙ ap (λ (x : Bool). member r roles || x) (member-single r a))
     ∙ or-out (not (is-end r)) (member r roles) (eqb r a) (λ t. not-T (is-end r) (λ e. n (subst (λ (i : ℕ). T (is-end i)) (test-equal t) e)))
 
-change-ordinary : (r : ℕ) (g : Graph) (c : Change) → Passes (input-checks c) → ordinary (changed g c) r ≡ presence-change r c (ordinary g r)
+pub change-ordinary : (r : ℕ) (g : Graph) (c : Change) → Passes (input-checks c) → ordinary (changed g c) r ≡ presence-change r c (ordinary g r)
 unfolding ordinary changed edit redraw presence-change input-checks Passes
 change-ordinary r g (add-by-place a own juniors seniors) (_, (n, _)) = added-role (g .roles) a r n
 change-ordinary r g (add-by-privileges a own) (_, (n, _)) = added-role (g .roles) a r n
@@ -45,7 +45,7 @@ change-ordinary r g (withdraw a b) t = refl
 change-ordinary r g (add-edge a b) t = refl
 change-ordinary r g (remove-edge a b) t = refl
 
-call-ordinary : (r : ℕ) (s : State) (c : Call) → Passes (checks s c (after s c)) → ordinary (after s c .graph) r ≡ presence r c (ordinary (s .graph) r)
+pub call-ordinary : (r : ℕ) (s : State) (c : Call) → Passes (checks s c (after s c)) → ordinary (after s c .graph) r ≡ presence r c (ordinary (s .graph) r)
 unfolding checks after with-graph with-conflicts with-seats presence ordinary
 call-ordinary r s (change c) t = change-ordinary r (s .graph) c (parts (input-checks c) _ t .0)
 call-ordinary r s (declare a b) t = refl
@@ -55,7 +55,7 @@ call-ordinary r s (unassign a b) t = refl
 call-ordinary r s (ask a b) t = refl
 
 -- ---- conflicts
-call-declared : (p q : ℕ) (s : State) (c : Call) → Invariant s → Passes (checks s c (after s c))
+pub call-declared : (p q : ℕ) (s : State) (c : Call) → Invariant s → Passes (checks s c (after s c))
     → declared (after s c .graph .conflicts) p q ≡ declaration p q c (declared (s .graph .conflicts) p q)
 unfolding checks declare-checks lift-checks after with-graph with-conflicts with-seats changed declaration Passes
 call-declared p q s (change c) v t = refl
@@ -66,7 +66,7 @@ call-declared p q s (unassign a b) v t = refl
 call-declared p q s (ask a b) v t = refl
 
 -- ---- seats
-call-assigned : (i r : ℕ) (s : State) (c : Call) → Invariant s → Passes (checks s c (after s c)) → assigned (after s c) i r ≡ assignment i r c (assigned s i r)
+pub call-assigned : (i r : ℕ) (s : State) (c : Call) → Invariant s → Passes (checks s c (after s c)) → assigned (after s c) i r ≡ assignment i r c (assigned s i r)
 unfolding checks after with-graph with-conflicts with-seats assigned assignment Passes
 call-assigned i r s (change c) v t = refl
 call-assigned i r s (declare a b) v t = refl

@@ -4,7 +4,7 @@ use mathlib.Core.Path.{_≡_, refl, ap, _∙_}
 use mathlib.Core.Bool.{Bool, not}
 use mathlib.Core.Logic.{inl, inr}
 use mathlib.Core.List.{List}
-use Prim.Native.Nat.{ℕ, zero, suc, _+_, _/_, _%_, _<_, _≤_}
+use Prim.Native.Nat.{ℕ, zero, suc, _+_, _/_, _%_, _<_, _≤_, _*_}
 use native.Mathlib.Nat.{zero-add, add-zero}
 use native.Mathlib.Omega.{arith}
 use lib.ListN.{length, length-append}
@@ -14,7 +14,7 @@ use Rattle.sets.specs.Sets.{member}
 use Rattle.sets.proofs.Tests.{both, passes, fails, decide}
 use Rattle.sets.proofs.Counting.{count-le, count-bound}
 use Rattle.graph.specs.Tables.{at}
-use Rattle.graph.specs.Graph.{Graph, is-end, ordinary, effective}
+use Rattle.graph.specs.Graph.{Graph, is-end, ordinary, effective, privilege-count}
 use Rattle.graph.specs.Conflicts.{conflict}
 use Rattle.graph.proofs.Order.{ordinary-parts}
 use Rattle.seats.specs.Bytes.{bytes-of, Bytes}
@@ -100,11 +100,11 @@ pub seat-keys : (s : State) → Each (λ e. e .key < 64) (seat-entries s)
 unfolding seat-entries
 seat-keys s = each-listed (filled (s .seats)) (valued (at (s .seats))) (λ e. e .key < 64) 0 64 (λ k l t. omega arith)
 
-pub conflict-pairs : (g : Graph) → Each (λ e. (e .key < e .value) × (e .value < 64)) (conflict-entries g)
+pub conflict-pairs : (g : Graph) → Each (λ e. (e .key < e .value) × (e .value < privilege-count)) (conflict-entries g)
 unfolding conflict-entries conflict
 conflict-pairs g =
-    each-listed (λ k. conflict (g .conflicts) (k / 64) (k % 64)) (λ k. record { key = k / 64; value = k % 64 }) (λ e. (e .key < e .value) × (e .value < 64)) 0 4096
-    (λ k l t. (ltb→lt (k / 64) (k % 64) (both (ltb (k / 64) (k % 64)) (member (k % 64) (at (g .conflicts) (k / 64))) t .0), omega arith))
+    each-listed (λ k. conflict (g .conflicts) (k / privilege-count) (k % privilege-count)) (λ k. record { key = k / privilege-count; value = k % privilege-count }) (λ e. (e .key < e .value) × (e .value < privilege-count)) 0 (privilege-count * privilege-count)
+    (λ k l t. (ltb→lt (k / privilege-count) (k % privilege-count) (both (ltb (k / privilege-count) (k % privilege-count)) (member (k % privilege-count) (at (g .conflicts) (k / privilege-count))) t .0), omega arith))
 
 pub trailer-bytes : (r s c : ℕ) → Bytes (trailer r s c)
 unfolding trailer

@@ -8,7 +8,7 @@ use lib.ListN.{length, length-append}
 use lib.Seq.{drop-at}
 use borrow.Author.Tests.{le-ltb, le-leb, eq-eqb}
 use Rattle.seats.specs.Bytes.{bytes-of, number-at}
-use Rattle.seats.specs.Images.{Entry, entry-bytes, distance, trailer, parts, entries-at, Contents, contents, load-contents, load-trailer, load}
+use Rattle.seats.specs.Images.{Entry, entry-bytes, least-image, distance, trailer, parts, entries-at, Contents, contents, load-contents, load-trailer, load}
 use Rattle.seats.proofs.Numbers.{length-bytes-of, number-drop, number-behind}
 use Rattle.seats.proofs.Entries.{Each, length-entry-bytes, entries-behind}
 use Rattle.seats.proofs.ImageLength.{length-trailer, length-parts}
@@ -88,4 +88,4 @@ module _ (before : List ℕ) (top : ℕ) (R C S : List Entry)
       let far = distance (length R) (length S) (length C) in
       let e : length l ≡ length before + far = length-append before (parts top R C S) ∙ ap (λ (n : ℕ). length before + n) (length-parts top R C S) in
       let q : length l - far ≡ length before = omega arith in
-      rw (le-ltb (length l) 16 (omega arith), s .far, s .roles, s .seats, s .conflicts, eq-eqb far far refl, le-leb far (length l) (omega arith), q) (ap load-contents parts-read)
+      rw (le-ltb (length l) least-image (omega arith), s .far, s .roles, s .seats, s .conflicts, eq-eqb far far refl, le-leb far (length l) (omega arith), q) (ap load-contents parts-read)

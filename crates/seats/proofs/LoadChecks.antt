@@ -14,6 +14,7 @@ use lib.Dec.{T, T-not, not-T, eqb, leb, leb→le, le→leb, ltb, ltb→lt, lt→
 use borrow.Author.Tests.{lt-ltb, le-ltb, le-leb, lt-leb, eq-eqb, ne-eqb}
 use Rattle.sets.specs.Sets.{empty, included}
 use Rattle.sets.proofs.Tests.{both, join, passes, fails, decide, equal-test, test-equal}
+use Rattle.graph.specs.Graph.{privilege-count}
 use Rattle.graph.specs.Refusing.{Check, Verdict, passed, refused, verdict}
 use Rattle.graph.specs.Reading.{graph-of, read-verdict}
 use Rattle.graph.specs.declared.Verdict.the-variants.{Passed, Refused}
@@ -23,7 +24,7 @@ use Rattle.seats.specs.Bytes.{number-at}
 use Rattle.seats.specs.Seats.{State}
 use Rattle.seats.specs.Calls.{Answer}
 use Rattle.seats.specs.Calls as answers
-use Rattle.seats.specs.Images.{Entry, distance, Contents, contents, keys, restored, pair-place, entry-checks, content-checks, loaded, not-loaded, unless-refused, load-contents, load-trailer, load, settle-load, load-over}
+use Rattle.seats.specs.Images.{Entry, least-image, distance, Contents, contents, keys, end-sets, restored, pair-place, entry-checks, content-checks, loaded, not-loaded, unless-refused, load-contents, load-trailer, load, settle-load, load-over}
 use Rattle.seats.specs.ImageWork.{ascends, numbered, paired, TableRead, PairsRead, ContentsRead}
 use Rattle.seats.proofs.Entries.{Each, each-map, each-zip}
 use Rattle.seats.proofs.Listing.{Rising, rising-low, above}
@@ -66,7 +67,7 @@ module _ (c : Contents) where
         roles-rise = rising-low Entry.key 0 2 (c .roles) (omega arith) rise;
         roles = each-zip (c .roles) (λ e a b. (a, ltb→lt (e .key) 64 (both (ltb (e .key) 64) _ b .0))) (above Entry.key 2 (c .roles) rise) good;
         conflicts-rise = rise-p;
-        conflicts = each-map (c .conflicts) (λ e b. let (x, y) = both (ltb (e .key) (e .value)) (ltb (e .value) 64) b in (ltb→lt (e .key) (e .value) x, ltb→lt (e .value) 64 y)) good-p;
+        conflicts = each-map (c .conflicts) (λ e b. let (x, y) = both (ltb (e .key) (e .value)) (ltb (e .value) privilege-count) b in (ltb→lt (e .key) (e .value) x, ltb→lt (e .value) privilege-count y)) good-p;
         seats-rise = rise-s;
         seats = each-map (c .seats) seat good-s;
       }
@@ -83,7 +84,7 @@ module _ (c : Contents) where
       join (roles-test && pairs-test) (seats-test (keys (c .roles)))
       (join roles-test pairs-test
       (rising-ascends Entry.key (numbered 0 all-sets) 2 (c .roles) (from-two (c .roles) (o .roles-rise) (o .roles)) (each-zip (c .roles) role (o .roles) small))
-      (rising-ascends pair-place paired 0 (c .conflicts) (o .conflicts-rise) (each-map (c .conflicts) (λ e p. join (ltb (e .key) (e .value)) (ltb (e .value) 64) (lt→ltb (e .key) (e .value) (p .0)) (lt→ltb (e .value) 64 (p .1))) (o .conflicts))))
+      (rising-ascends pair-place paired 0 (c .conflicts) (o .conflicts-rise) (each-map (c .conflicts) (λ e p. join (ltb (e .key) (e .value)) (ltb (e .value) privilege-count) (lt→ltb (e .key) (e .value) (p .0)) (lt→ltb (e .value) privilege-count (p .1))) (o .conflicts))))
       (rising-ascends Entry.key (numbered 1 (keys (c .roles))) 0 (c .seats) (o .seats-rise) (each-map (c .seats) seat (o .seats)))
     where
       from-two : (l : List Entry) → Rising Entry.key 0 l → Each (λ e. (2 ≤ e .key) × (e .key < 64)) l → Rising Entry.key 2 l
@@ -122,7 +123,7 @@ alike-verdict n p l h false f g = refuses l h g
 -- ---- the contents
 -- What the readers of the parts leave and test is what the contents describe and refusal 7 tests.
 module _ (c : Contents) (small : Each (λ e. e .value < 2 ^ 64) (c .roles)) {sets conflicts seats : List ℕ} {present occupied : ℕ} {a b d : Bool}
-    (r : TableRead (c .roles) 2 0 all-sets (lists.set (replicate 64 0) 1 (c .top)) sets present a) (p : PairsRead (c .conflicts) (replicate 64 0) conflicts b)
+    (r : TableRead (c .roles) 2 0 all-sets (end-sets (c .top)) sets present a) (p : PairsRead (c .conflicts) (replicate privilege-count 0) conflicts b)
     (s : TableRead (c .seats) 0 1 present (replicate 64 0) seats occupied d) where
   sound-test : (a && b) && d ≡ entries-test c
   sound-test = by-roles a refl ∙ ap (λ (x : Bool). (x && pairs-test c) && seats-test c (keys (c .roles))) (r .tested)
@@ -188,14 +189,14 @@ pub record Trailed (l : List ℕ) (far roles seats conflicts : ℕ) : Type 0 whe
   pub seats-are : seats ≡ number-at 1 (length l - 3) l
   pub conflicts-are : conflicts ≡ number-at 2 (length l - 2) l
 
-pub too-few-bytes : (l : List ℕ) → length l < 16 → load l ≡ not-loaded 6 0
+pub too-few-bytes : (l : List ℕ) → length l < least-image → load l ≡ not-loaded 6 0
 unfolding load
-too-few-bytes l h = rw (lt-ltb (length l) 16 h)
+too-few-bytes l h = rw (lt-ltb (length l) least-image h)
 
-module _ {l : List ℕ} {far r n c : ℕ} (long : 16 ≤ length l) (t : Trailed l far r n c) where
+module _ {l : List ℕ} {far r n c : ℕ} (long : least-image ≤ length l) (t : Trailed l far r n c) where
   trailer-decides : load l ≡ load-trailer l far r n c
   unfolding load
-  trailer-decides = rw (le-ltb (length l) 16 long, t .far-is, t .roles-are, t .seats-are, t .conflicts-are)
+  trailer-decides = rw (le-ltb (length l) least-image long, t .far-is, t .roles-are, t .seats-are, t .conflicts-are)
 
   pub other-distance : far ≢ distance r n c → load l ≡ not-loaded 6 0
   unfolding load-trailer

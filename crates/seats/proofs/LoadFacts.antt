@@ -10,11 +10,11 @@ use lib.ListN.{length}
 use lib.Dec.{T, T-not, not-T, eqb, leb, leb→le, ltb, ltb→lt}
 use Rattle.sets.specs.Sets.{empty, included}
 use Rattle.sets.proofs.Tests.{both, either, or-left, or-right, so, test-equal}
-use Rattle.graph.specs.Graph.{role-count, is-end}
+use Rattle.graph.specs.Graph.{role-count, is-end, privilege-count}
 use Rattle.graph.specs.Refusing.{Verdict, passed, refused, verdict}
 use Rattle.seats.specs.Bytes.{number-at}
 use Rattle.seats.specs.Seats.{State, seat-count}
-use Rattle.seats.specs.Images.{Entry, distance, Contents, contents, keys, restored, pair-place, no-ordinary-number, entry-checks, content-checks, Loaded, loaded, not-loaded, unless-refused, load-contents, load-trailer, load}
+use Rattle.seats.specs.Images.{Entry, least-image, distance, Contents, contents, keys, restored, pair-place, no-ordinary-number, entry-checks, content-checks, Loaded, loaded, not-loaded, unless-refused, load-contents, load-trailer, load}
 use Rattle.graph.proofs.Refusals.{Passes, parts, passed-passes, number-lt}
 use Rattle.seats.proofs.Entries.{Each, each-map, each-zip}
 use Rattle.seats.proofs.Listing.{Rising, ordered-rising, rising-ordered, none-each, each-none}
@@ -38,7 +38,7 @@ found l s e =
     let r = number-at 1 (end - 4) l in
     let n = number-at 1 (end - 3) l in
     let c = number-at 2 (end - 2) l in
-    let x = otherwise (ltb end 16) _ e in
+    let x = otherwise (ltb end least-image) _ e in
     let y = where-so (eqb far (distance r n c) && leb far end) _ x in
     let z = both (eqb far (distance r n c)) (leb far end) (y .0) in
     let q : far ≡ distance r n c = test-equal (z .0) in
@@ -96,7 +96,7 @@ ordered c (no-roles, (no-pairs, (no-seats, (R, (C, (S, (lower, (none, (absent, _
   conflicts-rise = ordered-rising pair-place (c .conflicts) C;
   conflicts =
       each-zip (c .conflicts)
-      (λ e x y. (number-lt (e .value) (e .key) y, number-lt 64 (e .value) (λ t. x (or-right (leb 64 (e .key)) (leb 64 (e .value)) t))))
+      (λ e x y. (number-lt (e .value) (e .key) y, number-lt privilege-count (e .value) (λ t. x (or-right (leb privilege-count (e .key)) (leb privilege-count (e .value)) t))))
       (none-each _ (c .conflicts) no-pairs) (none-each _ (c .conflicts) lower);
   seats-rise = ordered-rising Entry.key (c .seats) S;
   seats =
@@ -119,7 +119,7 @@ ordered-passes c o =
     let S = c .seats in
     let roles = each-none no-ordinary-number R (each-map R (λ e p t. no-role e p (either (is-end (e .key)) (leb 64 (e .key)) t)) (o .roles)) in
     let pairs =
-    each-none (λ e. leb 64 (e .key) || leb 64 (e .value)) C (each-map C (λ e p t. no-pair e p (either (leb 64 (e .key)) (leb 64 (e .value)) t)) (o .conflicts)) in
+    each-none (λ e. leb privilege-count (e .key) || leb privilege-count (e .value)) C (each-map C (λ e p t. no-pair e p (either (leb privilege-count (e .key)) (leb privilege-count (e .value)) t)) (o .conflicts)) in
     let seats = each-none (λ e. leb 64 (e .key)) S (each-map S (λ e p t. let a = p .0 in let b = leb→le 64 (e .key) t in omega arith) (o .seats)) in
     let lower = each-none (λ e. leb (e .value) (e .key)) C (each-map C (λ e p t. let a = p .0 in let b = leb→le (e .value) (e .key) t in omega arith) (o .conflicts)) in
     let some-role = each-none (λ e. eqb (e .value) empty) S (each-map S (λ e p. T-not (eqb (e .value) empty) (p .1)) (o .seats)) in
@@ -144,6 +144,6 @@ ordered-passes c o =
     no-role e p (inl t) = let a = p .0 in let b = ltb→lt (e .key) 2 t in omega arith
     no-role e p (inr t) = let a = p .1 in let b = leb→le 64 (e .key) t in omega arith
 
-    no-pair : (e : Entry) → Pair e → T (leb 64 (e .key)) ⊎ T (leb 64 (e .value)) → ⊥
-    no-pair e p (inl t) = let a = p .0 in let c = p .1 in let b = leb→le 64 (e .key) t in omega arith
-    no-pair e p (inr t) = let a = p .1 in let b = leb→le 64 (e .value) t in omega arith
+    no-pair : (e : Entry) → Pair e → T (leb privilege-count (e .key)) ⊎ T (leb privilege-count (e .value)) → ⊥
+    no-pair e p (inl t) = let a = p .0 in let c = p .1 in let b = leb→le privilege-count (e .key) t in omega arith
+    no-pair e p (inr t) = let a = p .1 in let b = leb→le privilege-count (e .value) t in omega arith

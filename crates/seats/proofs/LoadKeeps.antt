@@ -24,7 +24,7 @@ use Rattle.graph.proofs.Order.{ordinary-join, end-present, member-present, ordi
 use Rattle.seats.specs.Bytes.{Bytes}
 use Rattle.seats.specs.Seats.{State, seat-count, assigned, pair-seat}
 use Rattle.seats.specs.Invariants.{Invariant}
-use Rattle.seats.specs.Images.{Entry, distance, Contents, contents, keys, stored, restored, content-checks, loaded, load}
+use Rattle.seats.specs.Images.{Entry, distance, Contents, contents, keys, stored, end-sets, restored, content-checks, loaded, load}
 use Rattle.graph.proofs.Refusals.{Passes, closed-from}
 use Rattle.seats.proofs.Numbers.{number-lt}
 use Rattle.seats.proofs.Entries.{Each, each-map, entries-lt}
@@ -72,7 +72,7 @@ module _ (c : Contents) (o : Ordered c) (ht : c .top < 2 ^ 64) (hr : Each (λ e.
               | yes q ↦ (end-present (restored c .graph) r (omega arith), omega arith)
               | no d ↦
                   absurd (in-empty p (subst (λ (x : ℕ). T (member p x))
-                  (stored-absent r (c .roles) (set (replicate 64 0) 1 (c .top)) n ∙ getD-set-other (replicate 64 0) 1 r (c .top) 0 d ∙ at-replicate 64 r) m))
+                  (stored-absent r (c .roles) (end-sets (c .top)) n ∙ getD-set-other (replicate 64 0) 1 r (c .top) 0 d ∙ at-replicate 64 r) m))
             ]
       ]
 
@@ -90,7 +90,7 @@ module _ (c : Contents) (o : Ordered c) (ht : c .top < 2 ^ 64) (hr : Each (λ e.
     restored-formed = record {
       roles-lt = roles-lt;
       roles-ordinary = role-ordinary;
-      sets = stored-table (c .roles) (set (replicate 64 0) 1 (c .top)) refl hr (λ i. set-holds (λ x. x < 2 ^ 64) (replicate 64 0) 1 (c .top) i (λ q. ht) (zeros-lt 64 64 i));
+      sets = stored-table (c .roles) (end-sets (c .top)) refl hr (λ i. set-holds (λ x. x < 2 ^ 64) (replicate 64 0) 1 (c .top) i (λ q. ht) (zeros-lt 64 64 i));
       held = held;
       top-whole = λ r t.
           so (included (effective (restored c .graph) r) (effective (restored c .graph) max-role))

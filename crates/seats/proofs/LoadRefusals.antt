@@ -12,7 +12,7 @@ use Rattle.graph.specs.Refusing as refusing
 use Rattle.seats.specs.Bytes.{number-at}
 use Rattle.seats.specs.Seats.{State}
 use Rattle.seats.specs.Calls.{refused}
-use Rattle.seats.specs.Images.{distance, Contents, contents, restored, entry-checks, content-checks, Loaded, loaded, not-loaded, unless-refused, load-contents, load-trailer, load, settle-load, load-over}
+use Rattle.seats.specs.Images.{least-image, distance, Contents, contents, restored, entry-checks, content-checks, Loaded, loaded, not-loaded, unless-refused, load-contents, load-trailer, load, settle-load, load-over}
 
 pub load-refused-keeps : (s : State) (l : List ℕ) (n p : ℕ) → load l ≡ not-loaded n p → load-over s l ≡ (refused n p, s)
 unfolding load-over settle-load
@@ -79,7 +79,7 @@ load-refused l =
     let r = number-at 1 (end - 4) l in
     let n = number-at 1 (end - 3) l in
     let c = number-at 2 (end - 2) l in
-    either-way Refused (ltb end 16) (not-loaded 6 0) (load-trailer l far r n c) six (trailer-refused l far r n c)
+    either-way Refused (ltb end least-image) (not-loaded 6 0) (load-trailer l far r n c) six (trailer-refused l far r n c)
 
 pub load-refusals : (l : List ℕ) (n p : ℕ) → load l ≡ not-loaded n p → ((n ≡ 6) ⊎ (n ≡ 7) ⊎ (n ≡ 8)) × (p ≡ 0)
 load-refusals l n p e = subst Refused e (load-refused l)

@@ -5,7 +5,7 @@ use mathlib.Core.Bool.{not}
 use mathlib.Core.List.{List, _++_}
 use Prim.Native.Nat.{ℕ, _+_, _-_, _*_, _≤_}
 use native.Mathlib.Omega.{arith}
-use lib.ListN.{length, take, drop, set, replicate, length-drop, take-append-drop}
+use lib.ListN.{length, take, drop, replicate, length-drop, take-append-drop}
 use lib.Seq.{take-all, drop-drop}
 use lib.Dec.{T, T-not, eqb, eqb-refl}
 use Rattle.sets.specs.Sets.{empty, member}
@@ -16,7 +16,7 @@ use Rattle.graph.proofs.Tables.{at-replicate}
 use Rattle.graph.proofs.Order.{ordinary-parts, ordinary-join}
 use Rattle.seats.specs.Bytes.{bytes-of, number-at, Bytes}
 use Rattle.seats.specs.Seats.{State, seat-count}
-use Rattle.seats.specs.Images.{Entry, role-entries, conflict-entries, seat-entries, distance, trailer, parts, image, entries-at, Contents, contents, keys, stored, restored, loaded, load}
+use Rattle.seats.specs.Images.{Entry, role-entries, conflict-entries, seat-entries, distance, trailer, parts, image, entries-at, Contents, contents, keys, stored, end-sets, restored, loaded, load}
 use Rattle.seats.proofs.Numbers.{bytes-of-number}
 use Rattle.seats.proofs.Entries.{Each, each-map, each-zip, length-entries-at, entry-bytes-at}
 use Rattle.seats.proofs.Listing.{there, each-some}
@@ -70,13 +70,13 @@ module _ (c : Contents) (o : Ordered c) where
   roles-back : role-entries (restored c .graph) ≡ c .roles
   unfolding role-entries effective restored
   roles-back =
-      stored-listed 64 (ordinary (restored c .graph)) (c .roles) (set (replicate role-count empty) max-role (c .top)) refl (o .roles-rise)
+      stored-listed 64 (ordinary (restored c .graph)) (c .roles) (end-sets (c .top)) refl (o .roles-rise)
       (each-zip (c .roles) (λ e x m. (x .1, ordinary-join (restored c .graph) (e .key) (x .0) m)) (o .roles) role-known)
       (λ k t. subst T (member-keys k (c .roles)) (ordinary-parts (restored c .graph) k t .1))
 
   top-back : effective (restored c .graph) max-role ≡ c .top
   unfolding effective restored at
-  top-back = stored-other 1 (c .roles) (set (replicate role-count empty) max-role (c .top)) (each-map (c .roles) (λ e x q. let a = x .0 in omega arith) (o .roles))
+  top-back = stored-other 1 (c .roles) (end-sets (c .top)) (each-map (c .roles) (λ e x q. let a = x .0 in omega arith) (o .roles))
 
   conflicts-back : conflict-entries (restored c .graph) ≡ c .conflicts
   unfolding conflict-entries restored

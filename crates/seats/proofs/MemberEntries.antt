@@ -15,7 +15,7 @@ use Rattle.sets.proofs.Tests.{both, passes, fails, equal-test, test-equal}
 use Rattle.sets.proofs.Laws.{member-empty, member-collect}
 use Rattle.sets.proofs.Walks.{lowest-in, lowest-below, lowest-of, member-next}
 use Rattle.graph.specs.Tables.{at}
-use Rattle.graph.specs.Graph.{Graph, ordinary, effective}
+use Rattle.graph.specs.Graph.{Graph, ordinary, effective, privilege-count}
 use Rattle.graph.specs.Conflicts.{conflict}
 use Rattle.graph.proofs.Drawings.{ordinary-member}
 use Rattle.seats.specs.Bytes.{bytes-of}
@@ -97,35 +97,35 @@ entry-bytes-append n (e ∷ l) m =
     ∙ sym (append-assoc (e .key ∷ bytes-of n (e .value)) (entry-bytes n l) (entry-bytes n m))
 
 -- ---- the members of a set
-pub length-members : (s : ℕ) (entry : ℕ → Entry) → length (member-entries s entry) ≡ size 64 s
+pub length-members : (v s : ℕ) (entry : ℕ → Entry) → length (member-entries v s entry) ≡ size v s
 unfolding member-entries size
-length-members s entry = length-listed (λ n. member n s) entry 64
+length-members v s entry = length-listed (λ n. member n s) entry v
 
-members-none : (entry : ℕ → Entry) → member-entries 0 entry ≡ []
+members-none : (v : ℕ) (entry : ℕ → Entry) → member-entries v 0 entry ≡ []
 unfolding member-entries
-members-none entry = listed-none (λ n. member n 0) entry 0 64 member-empty
+members-none v entry = listed-none (λ n. member n 0) entry 0 v member-empty
 
 -- Of the entries of `rest`, n bytes for each value, that of the lowest member k is written next.
-module _ {old whole buffer : List ℕ} {start i : ℕ} (n : ℕ) (entry : ℕ → Entry) {rest k : ℕ} (small : rest < 2 ^ 64) (some : rest ≢ 0) (q : k ≡ lowest-member 64 rest)
-    (w : Writing old start whole buffer i (entry-bytes n (member-entries rest entry))) where
-  lowest-first : Writing old start whole buffer i ((entry k .key ∷ bytes-of n (entry k .value)) ++ entry-bytes n (member-entries (without-lowest 64 rest) entry))
+module _ {old whole buffer : List ℕ} {start i : ℕ} (v n : ℕ) (entry : ℕ → Entry) {rest k : ℕ} (small : rest < 2 ^ v) (some : rest ≢ 0) (q : k ≡ lowest-member v rest)
+    (w : Writing old start whole buffer i (entry-bytes n (member-entries v rest entry))) where
+  lowest-first : Writing old start whole buffer i ((entry k .key ∷ bytes-of n (entry k .value)) ++ entry-bytes n (member-entries v (without-lowest v rest) entry))
   unfolding member-entries entry-bytes
   lowest-first =
       rw q
-      (rw (listed-lowest (λ n. member n rest) (λ n. member n (without-lowest 64 rest)) entry (lowest-member 64 rest) 0 64 (omega arith)
-      (let l = lowest-below 64 rest small some in omega arith) (lowest-in 64 rest small some) (lowest-of 64 rest) (member-next 64 rest))
+      (rw (listed-lowest (λ n. member n rest) (λ n. member n (without-lowest v rest)) entry (lowest-member v rest) 0 v (omega arith)
+      (let l = lowest-below v rest small some in omega arith) (lowest-in v rest small some) (lowest-of v rest) (member-next v rest))
       at w)
 
   pub member-room : i + 1 + n ≤ length buffer
   member-room = let r = piece-room (entry k .key ∷ bytes-of n (entry k .value)) _ lowest-first in let l = length-bytes-of n (entry k .value) in omega arith
 
-  pub member-written : {after : List ℕ} {next left : ℕ} → left ≡ without-lowest 64 rest → Wrote buffer i (entry k .key ∷ bytes-of n (entry k .value)) after next
-      → Writing old start whole after next (entry-bytes n (member-entries left entry))
+  pub member-written : {after : List ℕ} {next left : ℕ} → left ≡ without-lowest v rest → Wrote buffer i (entry k .key ∷ bytes-of n (entry k .value)) after next
+      → Writing old start whole after next (entry-bytes n (member-entries v left entry))
   member-written e p = rw e (writing-next (entry k .key ∷ bytes-of n (entry k .value)) _ lowest-first p)
 
-pub members-written : {old whole buffer : List ℕ} {start i : ℕ} (n : ℕ) (entry : ℕ → Entry) {rest : ℕ} → rest ≡ 0 → Writing old start whole buffer i (entry-bytes n (member-entries rest entry)) → Wrote old start whole buffer i
+pub members-written : {old whole buffer : List ℕ} {start i : ℕ} (v n : ℕ) (entry : ℕ → Entry) {rest : ℕ} → rest ≡ 0 → Writing old start whole buffer i (entry-bytes n (member-entries v rest entry)) → Wrote old start whole buffer i
 unfolding entry-bytes
-members-written n entry z w = writing-end (rw (z, members-none entry) at w)
+members-written v n entry z w = writing-end (rw (z, members-none v entry) at w)
 
 -- ---- the roles and the seats
 pub roles-listed : (g : Graph) → table-entries (difference (g .roles) 3) (g .sets) ≡ role-entries g
@@ -142,43 +142,43 @@ seats-listed s =
 module _ (C : List ℕ) where
   -- The conflicts whose lower privilege is a or higher.
   unfoldable pub rows-from : ℕ → List Entry
-  rows-from a = listed-from (64 * a) (64 * (64 - a)) (has-pair C) pair-at
+  rows-from a = listed-from (privilege-count * a) (privilege-count * (privilege-count - a)) (has-pair C) pair-at
 
   pub rows-all : rows-from 0 ≡ pair-entries C
   unfolding rows-from conflict-entries
   rows-all = refl
 
-  pub rows-none : (a : ℕ) → 64 ≤ a → rows-from a ≡ []
+  pub rows-none : (a : ℕ) → privilege-count ≤ a → rows-from a ≡ []
   unfolding rows-from listed-from
-  rows-none a h = let e : 64 * (64 - a) ≡ 0 = omega arith in rw e
+  rows-none a h = let e : privilege-count * (privilege-count - a) ≡ 0 = omega arith in rw e
 
-  row-listed : (a : ℕ) → listed-from (64 * a) 64 (has-pair C) pair-at ≡ row-entries a (collect 64 (conflict C a))
+  row-listed : (a : ℕ) → listed-from (privilege-count * a) privilege-count (has-pair C) pair-at ≡ row-entries a (collect privilege-count (conflict C a))
   unfolding member-entries
   row-listed a =
-      ap (λ (p : ℕ). listed-from p 64 (has-pair C) pair-at) (sym (add-zero (64 * a)))
-      ∙ listed-moved (64 * a) (has-pair C) (λ n. member n (collect 64 (conflict C a))) pair-at (λ n. record { key = a; value = n }) 0 64
+      ap (λ (p : ℕ). listed-from p privilege-count (has-pair C) pair-at) (sym (add-zero (privilege-count * a)))
+      ∙ listed-moved (privilege-count * a) (has-pair C) (λ n. member n (collect privilege-count (conflict C a))) pair-at (λ n. record { key = a; value = n }) 0 privilege-count
       (λ j l.
-      let d : (64 * a + j) / 64 ≡ a = omega arith in
-      let m : (64 * a + j) % 64 ≡ j = omega arith in
-      (rw (d, m) (sym (member-collect j 64 (conflict C a) ∙ ap (λ (t : Bool). t && conflict C a j) (passes (ltb j 64) (lt→ltb j 64 (omega arith))))), λ t. record { key = d t; value = m t }))
+      let d : (privilege-count * a + j) / privilege-count ≡ a = omega arith in
+      let m : (privilege-count * a + j) % privilege-count ≡ j = omega arith in
+      (rw (d, m) (sym (member-collect j privilege-count (conflict C a) ∙ ap (λ (t : Bool). t && conflict C a j) (passes (ltb j privilege-count) (lt→ltb j privilege-count (omega arith))))), λ t. record { key = d t; value = m t }))
 
-  pub rows-next : (a : ℕ) → a < 64 → rows-from a ≡ row-entries a (collect 64 (conflict C a)) ++ rows-from (a + 1)
+  pub rows-next : (a : ℕ) → a < privilege-count → rows-from a ≡ row-entries a (collect privilege-count (conflict C a)) ++ rows-from (a + 1)
   unfolding rows-from
   rows-next a h =
-      let e : 64 * (64 - a) ≡ 64 + 64 * (64 - (a + 1)) = omega arith in
-      let f : 64 * a + 64 ≡ 64 * (a + 1) = omega arith in
-      rw (e, listed-append (has-pair C) pair-at (64 * a) 64 (64 * (64 - (a + 1))), f, row-listed a)
+      let e : privilege-count * (privilege-count - a) ≡ privilege-count + privilege-count * (privilege-count - (a + 1)) = omega arith in
+      let f : privilege-count * a + privilege-count ≡ privilege-count * (a + 1) = omega arith in
+      rw (e, listed-append (has-pair C) pair-at (privilege-count * a) privilege-count (privilege-count * (privilege-count - (a + 1))), f, row-listed a)
 
   -- One row more is counted.
-  pub rows-counted : (a n : ℕ) → a < 64 → (row : ℕ) → row ≡ collect 64 (conflict C a) → n + length (rows-from a) ≡ length (pair-entries C) → n + size 64 row + length (rows-from (a + 1)) ≡ length (pair-entries C)
+  pub rows-counted : (a n : ℕ) → a < privilege-count → (row : ℕ) → row ≡ collect privilege-count (conflict C a) → n + length (rows-from a) ≡ length (pair-entries C) → n + size privilege-count row + length (rows-from (a + 1)) ≡ length (pair-entries C)
   rows-counted a n h row e k =
-      let s = length-members row (λ n. record { key = a; value = n }) in
-      let t = ap length (rows-next a h) ∙ length-append (row-entries a (collect 64 (conflict C a))) (rows-from (a + 1)) in
+      let s = length-members privilege-count row (λ n. record { key = a; value = n }) in
+      let t = ap length (rows-next a h) ∙ length-append (row-entries a (collect privilege-count (conflict C a))) (rows-from (a + 1)) in
       let u : length (rows-from a) ≡ length (row-entries a row) + length (rows-from (a + 1)) = rw e t in
       omega arith
 
   -- One row more is written.
-  module _ {old whole buffer : List ℕ} {start i : ℕ} (a : ℕ) (h : a < 64) {row : ℕ} (e : row ≡ collect 64 (conflict C a)) (w : Writing old start whole buffer i (entry-bytes 1 (rows-from a))) where
+  module _ {old whole buffer : List ℕ} {start i : ℕ} (a : ℕ) (h : a < privilege-count) {row : ℕ} (e : row ≡ collect privilege-count (conflict C a)) (w : Writing old start whole buffer i (entry-bytes 1 (rows-from a))) where
     row-first : Writing old start whole buffer i (entry-bytes 1 (row-entries a row) ++ entry-bytes 1 (rows-from (a + 1)))
     row-first = rw e (rw (rows-next a h, entry-bytes-append 1) at w)
 
@@ -188,6 +188,6 @@ module _ (C : List ℕ) where
     pub row-written : {after : List ℕ} {next : ℕ} → Wrote buffer i (entry-bytes 1 (row-entries a row)) after next → Writing old start whole after next (entry-bytes 1 (rows-from (a + 1)))
     row-written p = writing-next (entry-bytes 1 (row-entries a row)) (entry-bytes 1 (rows-from (a + 1))) row-first p
 
-  pub rows-written : {old whole buffer : List ℕ} {start i : ℕ} (a : ℕ) → 64 ≤ a → Writing old start whole buffer i (entry-bytes 1 (rows-from a)) → Wrote old start whole buffer i
+  pub rows-written : {old whole buffer : List ℕ} {start i : ℕ} (a : ℕ) → privilege-count ≤ a → Writing old start whole buffer i (entry-bytes 1 (rows-from a)) → Wrote old start whole buffer i
   unfolding entry-bytes
   rows-written a h w = writing-end (rw (rows-none a h) at w)

@@ -95,29 +95,29 @@ module _ (l : List Entry) (h : Each Pair l) where
   pub pairs-listed : Rising pair-place 0 l → listed-from 0 (privilege-count * privilege-count) (has-pair (stored-pairs l none)) pair-at ≡ l
   unfolding conflict pair-place
   pairs-listed r =
-      relisted (has-pair (stored-pairs l none)) pair-at pair-number (λ i. omega arith) 0 4096 l
+      relisted (has-pair (stored-pairs l none)) pair-at pair-number (λ i. omega arith) 0 (privilege-count * privilege-count) l
       (rising-by pair-place pair-number Pair (λ e f x y m. let a = x .1 in let b = y .1 in omega arith) l h r)
       (each-zip l listed h (each-some (λ e. pair-of (e .key) (e .value)) l (λ e. join (eqb (e .key) (e .key)) _ (eqb-refl (e .key)) (eqb-refl (e .value)))))
       (λ k a b t.
-      some-map (pair-of (k / 64) (k % 64)) (λ e. eqb k (pair-number e)) l (each-map l (λ e p. same k e) h)
-      (in-pairs (k / 64) (k % 64) (both (ltb (k / 64) (k % 64)) (member (k % 64) (at (stored-pairs l none) (k / 64))) t .1)))
+      some-map (pair-of (k / privilege-count) (k % privilege-count)) (λ e. eqb k (pair-number e)) l (each-map l (λ e p. same k e) h)
+      (in-pairs (k / privilege-count) (k % privilege-count) (both (ltb (k / privilege-count) (k % privilege-count)) (member (k % privilege-count) (at (stored-pairs l none) (k / privilege-count))) t .1)))
     where
-      listed : (e : Entry) → Pair e → T (some (pair-of (e .key) (e .value)) l) → (pair-number e < 4096) × (pair-at (pair-number e) ≡ e) × T (has-pair (stored-pairs l none) (pair-number e))
+      listed : (e : Entry) → Pair e → T (some (pair-of (e .key) (e .value)) l) → (pair-number e < privilege-count * privilege-count) × (pair-at (pair-number e) ≡ e) × T (has-pair (stored-pairs l none) (pair-number e))
       listed e p t =
           let a = p .0 in
           let b = p .1 in
-          let d : pair-number e / 64 ≡ e .key = omega arith in
-          let m : pair-number e % 64 ≡ e .value = omega arith in (
+          let d : pair-number e / privilege-count ≡ e .key = omega arith in
+          let m : pair-number e % privilege-count ≡ e .value = omega arith in (
             omega arith,
             (λ i. record { key = d i; value = m i }),
             rw (d, m) (join (ltb (e .key) (e .value)) _ (lt→ltb (e .key) (e .value) a) (pairs-in (e .key) (e .value) t)),
           )
 
-      same : (k : ℕ) (e : Entry) → T (pair-of (k / 64) (k % 64) e) → T (eqb k (pair-number e))
+      same : (k : ℕ) (e : Entry) → T (pair-of (k / privilege-count) (k % privilege-count) e) → T (eqb k (pair-number e))
       same k e t =
-          let v = both (eqb (k / 64) (e .key)) (eqb (k % 64) (e .value)) t in
-          let a : k / 64 ≡ e .key = test-equal (v .0) in
-          let b : k % 64 ≡ e .value = test-equal (v .1) in
+          let v = both (eqb (k / privilege-count) (e .key)) (eqb (k % privilege-count) (e .value)) t in
+          let a : k / privilege-count ≡ e .key = test-equal (v .0) in
+          let b : k % privilege-count ≡ e .value = test-equal (v .1) in
           let z : k ≡ pair-number e = omega arith in
           equal-test z
 
@@ -125,27 +125,27 @@ module _ (l : List Entry) (h : Each Pair l) where
 pub listed-pairs : (C : List ℕ) → Paired C → stored-pairs (listed-from 0 (privilege-count * privilege-count) (has-pair C) pair-at) none ≡ C
 unfolding conflict
 listed-pairs C v =
-    table-ext 64 (stored-pairs l none) C (made .table .whole) (v .table .whole)
-    (λ a q. extensional 64 (at (stored-pairs l none) a) (at C a) (made .table .entry-lt a) (v .table .entry-lt a)
+    table-ext privilege-count (stored-pairs l none) C (made .table .whole) (v .table .whole)
+    (λ a q. extensional privilege-count (at (stored-pairs l none) a) (at C a) (made .table .entry-lt a) (v .table .entry-lt a)
     (λ b k. same-test (member b (at (stored-pairs l none) a)) (member b (at C a)) (to a b) (back a b)))
   where
     l : List Entry
-    l = listed-from 0 4096 (has-pair C) pair-at
+    l = listed-from 0 (privilege-count * privilege-count) (has-pair C) pair-at
 
-    apart : (k : ℕ) → T (has-pair C k) → (k / 64 < k % 64) × T (member (k % 64) (at C (k / 64)))
+    apart : (k : ℕ) → T (has-pair C k) → (k / privilege-count < k % privilege-count) × T (member (k % privilege-count) (at C (k / privilege-count)))
     apart k t =
-        let v = both (ltb (k / 64) (k % 64)) (member (k % 64) (at C (k / 64))) t in
-        (ltb→lt (k / 64) (k % 64) (v .0), v .1)
+        let v = both (ltb (k / privilege-count) (k % privilege-count)) (member (k % privilege-count) (at C (k / privilege-count))) t in
+        (ltb→lt (k / privilege-count) (k % privilege-count) (v .0), v .1)
 
     pairs : Each Pair l
-    pairs = each-listed (has-pair C) pair-at Pair 0 4096 (λ k q t. (apart k t .0, omega arith))
+    pairs = each-listed (has-pair C) pair-at Pair 0 (privilege-count * privilege-count) (λ k q t. (apart k t .0, omega arith))
 
     made : Paired (stored-pairs l none)
     made = pairs-paired l pairs
 
     to : (a b : ℕ) → T (member b (at (stored-pairs l none) a)) → T (member b (at C a))
     to a b t =
-        let held : Each (λ e. T (member (e .value) (at C (e .key)))) l = each-listed (has-pair C) pair-at (λ e. T (member (e .value) (at C (e .key)))) 0 4096 (λ k q t. apart k t .1) in
+        let held : Each (λ e. T (member (e .value) (at C (e .key)))) l = each-listed (has-pair C) pair-at (λ e. T (member (e .value) (at C (e .key)))) 0 (privilege-count * privilege-count) (λ k q t. apart k t .1) in
         let z = some-one (pair-of a b) l (in-pairs l pairs a b t) held in
         let v = both (eqb a (z .0 .key)) (eqb b (z .0 .value)) (z .1) in
         subst₂ (λ (x y : ℕ). T (member y (at C x))) (sym (test-equal (v .0))) (sym (test-equal (v .1))) (z .2)
@@ -153,18 +153,18 @@ listed-pairs C v =
     back : (a b : ℕ) → T (member b (at C a)) → T (member b (at (stored-pairs l none) a))
     back a b t =
         let p = v .ascending a b t in
-        let q = member-lt 64 b (at C a) (v .table .entry-lt a) t in
-        let k = 64 * a + b in
-        let d : k / 64 ≡ a = omega arith in
-        let m : k % 64 ≡ b = omega arith in
+        let q = member-lt privilege-count b (at C a) (v .table .entry-lt a) t in
+        let k = privilege-count * a + b in
+        let d : k / privilege-count ≡ a = omega arith in
+        let m : k % privilege-count ≡ b = omega arith in
         let has : T (has-pair C k) = rw (d, m) (join (ltb a b) (member b (at C a)) (lt→ltb a b p) t) in
         pairs-in l pairs a b
         (some-map (λ e. eqb k (pair-number e)) (pair-of a b) l (each-map l (λ e x. same a b q e (x .1)) pairs)
-        (listed-there (has-pair C) pair-at pair-number (λ i. omega arith) 0 4096 k (omega arith) (omega arith) has))
+        (listed-there (has-pair C) pair-at pair-number (λ i. omega arith) 0 (privilege-count * privilege-count) k (omega arith) (omega arith) has))
       where
-        same : (a b : ℕ) → b < 64 → (e : Entry) → e .value < 64 → T (eqb (64 * a + b) (pair-number e)) → T (pair-of a b e)
+        same : (a b : ℕ) → b < privilege-count → (e : Entry) → e .value < privilege-count → T (eqb (privilege-count * a + b) (pair-number e)) → T (pair-of a b e)
         same a b q e x t =
-            let z : 64 * a + b ≡ pair-number e = test-equal t in
+            let z : privilege-count * a + b ≡ pair-number e = test-equal t in
             let u : a ≡ e .key = omega arith in
             let w : b ≡ e .value = omega arith in
             join (eqb a (e .key)) (eqb b (e .value)) (equal-test u) (equal-test w)

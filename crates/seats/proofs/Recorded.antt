@@ -32,7 +32,7 @@ number-lt zero i l b = zero-lt-suc 0
 number-lt (suc n) i l b = rw (pow-suc 256 n) (omega (arith, byte-at l i b, number-lt n (suc i) l b))
 
 -- What is decoded carries sets of their width.
-unfoldable FitsDecoded : Decoded → Type 0
+unfoldable pub FitsDecoded : Decoded → Type 0
 FitsDecoded malformed = Unit {0}
 FitsDecoded (well-formed c) = FitsCall c
 
@@ -93,7 +93,7 @@ kinds-fit f hx hy hz =
       ),
     )
 
-decode-fits : (l : List ℕ) → Bytes l → FitsDecoded (decode l)
+pub decode-fits : (l : List ℕ) → Bytes l → FitsDecoded (decode l)
 unfolding decode fields FitsDecoded
 decode-fits l b = go (eqb (length l) record-length && eqb (number-at 5 3 l) 0)
   where
@@ -101,7 +101,7 @@ decode-fits l b = go (eqb (length l) record-length && eqb (number-at 5 3 l) 0)
     go true = each-at (malformed ∷ kinds (fields l)) (getD l 0 0) (kinds-fit (fields l) (number-lt 8 8 l b) (number-lt 8 16 l b) (number-lt 8 24 l b))
     go false = tt
 
-perform-keeps : (s : State) (c : Call) → FitsCall c → Invariant s → Invariant (perform s c .1)
+pub perform-keeps : (s : State) (c : Call) → FitsCall c → Invariant s → Invariant (perform s c .1)
 perform-keeps s c f v = elim (settled s c) [
   | inl r ↦ subst (λ (z : Answer × State). Invariant (z .1)) (sym (r .answer)) v
   | inr a ↦ subst (λ (z : Answer × State). Invariant (z .1)) (sym (a .answer)) (call-keeps s c f v (a .passes))

@@ -4,7 +4,7 @@ use mathlib.Core.Path.{_≡_, refl, sym, _∙_, subst}
 use mathlib.Core.Bool.{not, _&&_}
 use mathlib.Core.Logic.{inl, inr}
 use mathlib.Core.List.{List, _++_}
-use Prim.Native.Nat.{ℕ, _^_, _<_}
+use Prim.Native.Nat.{ℕ, _^_, _<_, _*_}
 use native.Mathlib.Decide.{ℕ-discrete}
 use native.Mathlib.Omega.{arith}
 use lib.ListN.{set, replicate}
@@ -17,13 +17,13 @@ use Rattle.sets.proofs.Counting.{any-some}
 use Rattle.sets.proofs.Laws.{member-lt, member-included}
 use Rattle.sets.proofs.Members.{same-members, no-members}
 use Rattle.graph.specs.Tables.{at}
-use Rattle.graph.specs.Graph.{Graph, role-count, max-role, ordinary, effective}
+use Rattle.graph.specs.Graph.{Graph, role-count, max-role, ordinary, effective, privilege-count}
 use Rattle.graph.specs.Refusing.{closed-checks}
 use Rattle.graph.specs.Invariants.{Formed}
 use Rattle.graph.proofs.Tables.{at-replicate}
 use Rattle.graph.proofs.Order.{ordinary-parts, ordinary-join, present-cases}
 use Rattle.seats.specs.Seats.{State, seat-count, assigned, pair-seat}
-use Rattle.seats.specs.Images.{Entry, role-entries, conflict-entries, seat-entries, image, Contents, keys, stored, restored, pair-place, entry-checks, content-checks, loaded, unless-refused, load-contents, load}
+use Rattle.seats.specs.Images.{Entry, role-entries, conflict-entries, seat-entries, image, Contents, keys, stored, end-sets, restored, pair-place, entry-checks, content-checks, loaded, unless-refused, load-contents, load}
 use Rattle.seats.specs.Invariants.{Invariant}
 use Rattle.graph.proofs.Refusals.{Passes, whole, verdict-passes, closed-goes}
 use Rattle.seats.proofs.Entries.{Each, each-map}
@@ -56,7 +56,7 @@ module _ (g : Graph) (f : Formed g) where
           subst T (sym (member-keys p (role-entries g)))
           (listed-there (ordinary g) (valued (effective g)) Entry.key (λ i. refl) 0 64 p (omega arith) (omega arith) (ordinary-join g p (f .roles-ordinary p m) m))
 
-  sets-again : stored (role-entries g) (set (replicate role-count empty) max-role (effective g max-role)) ≡ g .sets
+  sets-again : stored (role-entries g) (end-sets (effective g max-role)) ≡ g .sets
   unfolding role-entries effective at
   sets-again = listed-stored 64 (ordinary g) (g .sets) _ (f .sets .whole) refl other
     where
@@ -67,14 +67,14 @@ module _ (g : Graph) (f : Formed g) where
           let l = h .1 in
           elim (present-cases g k (h .0)) [ inl q ↦ d (omega arith) | inr t ↦ none t ]
 
-      other : (k : ℕ) → (T (ordinary g k) → ⊥) → at (set (replicate 64 0) 1 (at (g .sets) 1)) k ≡ at (g .sets) k
+      other : (k : ℕ) → (T (ordinary g k) → ⊥) → at (end-sets (at (g .sets) 1)) k ≡ at (g .sets) k
       other k none =
           elim (ℕ-discrete k 1) [
-            | yes q ↦ subst (λ (j : ℕ). at (set (replicate 64 0) 1 (at (g .sets) 1)) j ≡ at (g .sets) j) (sym q) refl
+            | yes q ↦ subst (λ (j : ℕ). at (end-sets (at (g .sets) 1)) j ≡ at (g .sets) j) (sym q) refl
             | no d ↦
                 getD-set-other (replicate 64 0) 1 k (at (g .sets) 1) 0 d
                 ∙ at-replicate 64 k
-                ∙ sym (no-members 64 (at (g .sets) k) (f .sets .entry-lt k) (nothing k none d))
+                ∙ sym (no-members privilege-count (at (g .sets) k) (f .sets .entry-lt k) (nothing k none d))
           ]
 
 module _ (s : State) (v : Invariant s) where
@@ -116,7 +116,7 @@ module _ (s : State) (v : Invariant s) where
         roles = role-keys g;
         conflicts-rise =
             rising-by pair-number pair-place Pair (λ e f x y m. let a = x .1 in let b = y .1 in omega arith) (conflict-entries g) (conflict-pairs g)
-            (rising-listed (has-pair (g .conflicts)) pair-at pair-number (λ i. omega arith) 0 4096);
+            (rising-listed (has-pair (g .conflicts)) pair-at pair-number (λ i. omega arith) 0 (privilege-count * privilege-count));
         conflicts = conflict-pairs g;
         seats-rise = rising-listed (filled (s .seats)) (valued (at (s .seats))) Entry.key (λ i. refl) 0 64;
         seats = seat-facts;

@@ -36,10 +36,10 @@ module _ {s : State} {o t r n c far : ℕ} (k : Counted s o t r n c far) where
   seats-part = ap (λ (x : ℕ). table-entries x (s .seats)) (k .occupied-are) ∙ seats-listed s
 
   roles-length : length (table-entries o (s .graph .sets)) ≡ r
-  roles-length = length-members o _ ∙ sym (k .roles-are)
+  roles-length = length-members 64 o _ ∙ sym (k .roles-are)
 
   seats-length : length (table-entries t (s .seats)) ≡ n
-  seats-length = length-members t _ ∙ sym (k .seats-are)
+  seats-length = length-members 64 t _ ∙ sym (k .seats-are)
 
   -- What saving writes, one part after the other.
   pub image-parts : image s ≡ bytes-of 8 (at (s .graph .sets) 1)

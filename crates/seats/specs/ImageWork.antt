@@ -22,17 +22,17 @@ pub record Wrote (before : List ℕ) (i : ℕ) (bytes after : List ℕ) (next : 
   pub buffer : after ≡ overwritten before i bytes
   pub place : next ≡ i + length bytes
 
--- The entries of a set's members, ascending.
-unfoldable pub member-entries : ℕ → (ℕ → Entry) → List Entry
-member-entries s entry = listed-from 0 64 (λ n. member n s) entry
+-- The entries of a set's members below w, ascending.
+unfoldable pub member-entries : ℕ → ℕ → (ℕ → Entry) → List Entry
+member-entries w s entry = listed-from 0 w (λ n. member n s) entry
 
 -- Each of the keys with its entry of a table.
 abbrev pub table-entries : ℕ → List ℕ → List Entry
-table-entries keys t = member-entries keys (λ k. record { key = k; value = at t k })
+table-entries keys t = member-entries 64 keys (λ k. record { key = k; value = at t k })
 
 -- A lower privilege with each of the higher ones.
 abbrev pub row-entries : ℕ → ℕ → List Entry
-row-entries lower row = member-entries row (λ n. record { key = lower; value = n })
+row-entries lower row = member-entries privilege-count row (λ n. record { key = lower; value = n })
 
 -- The conflicts that a table declares.
 abbrev pub pair-entries : List ℕ → List Entry

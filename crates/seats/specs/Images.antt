@@ -55,9 +55,13 @@ unfoldable pub entry-bytes : ℕ → List Entry → List ℕ
 entry-bytes n [] = []
 entry-bytes n (e ∷ l) = (e .key ∷ bytes-of n (e .value)) ++ entry-bytes n l
 
+-- The bytes of an image without a role, a seat or a conflict: none is shorter.
+abbrev pub least-image : ℕ
+least-image = 16
+
 -- The distance from an image's end back to its start, by the numbers of its roles, seats and conflicts.
 unfoldable pub distance : ℕ → ℕ → ℕ → ℕ
-distance roles seats conflicts = 16 + 9 * roles + 9 * seats + 2 * conflicts
+distance roles seats conflicts = least-image + 9 * roles + 9 * seats + 2 * conflicts
 
 -- The trailer: distance, roles, seats, conflicts.
 unfoldable pub trailer : ℕ → ℕ → ℕ → List ℕ
@@ -113,12 +117,16 @@ unfoldable pub stored-pairs : List Entry → List ℕ → List ℕ
 stored-pairs [] t = t
 stored-pairs (e ∷ l) t = stored-pairs l (put t (e .key) (e .value))
 
+-- A table of sets with that of MaxRole, and nothing else.
+abbrev pub end-sets : ℕ → List ℕ
+end-sets top = set (replicate role-count empty) max-role top
+
 -- The state that the contents describe.
 unfoldable pub restored : Contents → State
 restored c = record {
   graph = record {
     roles = keys (c .roles);
-    sets = stored (c .roles) (set (replicate role-count empty) max-role (c .top));
+    sets = stored (c .roles) (end-sets (c .top));
     conflicts = stored-pairs (c .conflicts) (replicate privilege-count empty);
   };
   seats = stored (c .seats) (replicate seat-count empty);
@@ -198,7 +206,7 @@ load-trailer l far roles seats conflicts =
 unfoldable pub load : List ℕ → Loaded
 load l =
     let end = length l in
-    cond (ltb end 16) (not-loaded 6 0)
+    cond (ltb end least-image) (not-loaded 6 0)
     (load-trailer l (number-at 4 (end - 8) l) (number-at 1 (end - 4) l) (number-at 1 (end - 3) l) (number-at 2 (end - 2) l))
 
 -- The answer to a load and the state it leaves; a refused load keeps the state at hand.

@@ -6,6 +6,7 @@ use mathlib.Core.Bool.{Bool, _&&_, and-false}
 use mathlib.Core.Logic.{inl, inr}
 use mathlib.Core.List.{List}
 use Prim.Native.Nat.{ℕ}
+use Rattle.graph.specs.Graph.{role-count}
 use Rattle.graph.specs.Drawing.{below}
 use Rattle.graph.specs.Reading.{drawn-from}
 use Rattle.graph.proofs.Drawings.{between-tests}
@@ -18,7 +19,7 @@ abbrev between : ℕ → List ℕ → ℕ → ℕ → ℕ → Bool
 between roles sets r s t = below (drawn-from roles sets) r t && below (drawn-from roles sets) t s
 
 abbrev Inv-loop : tie.InvT-loop
-Inv-loop roles sets r s rest₀ rest = Search (between roles sets r s) rest₀ rest
+Inv-loop roles sets r s rest₀ rest = Search role-count (between roles sets r s) rest₀ rest
 
 abbrev μ-loop : tie.MeasureT-loop
 μ-loop roles sets r s rest₀ rest = rest
@@ -27,7 +28,7 @@ ordinary-roles-requires : tie.Need-ordinary-roles-requires Inv-loop μ-loop
 ordinary-roles-requires c κs = tt
 
 loop-holds : tie.Need-loop-holds Inv-loop μ-loop
-loop-holds c = starts _ _ (search needs)
+loop-holds c = starts role-count _ _ (search needs)
 
 lowest-member-requires : tie.Need-lowest-member-requires Inv-loop μ-loop
 lowest-member-requires c κs = tt

@@ -18,13 +18,13 @@ abbrev circle : Graph → ℕ → ℕ → Bool
 circle g seniors j = any role-count (λ s. member s seniors && at-or-below g s j)
 
 abbrev Inv-loop : tie.InvT-loop
-Inv-loop roles sets juniors seniors rest₀ rest = Search (circle (drawn-from roles sets) seniors) juniors rest
+Inv-loop roles sets juniors seniors rest₀ rest = Search role-count (circle (drawn-from roles sets) seniors) juniors rest
 
 abbrev μ-loop : tie.MeasureT-loop
 μ-loop roles sets juniors seniors rest₀ rest = rest
 
 loop-holds : tie.Need-loop-holds Inv-loop μ-loop
-loop-holds c = starts _ _ (search needs)
+loop-holds c = starts role-count _ _ (search needs)
 
 first-requires : tie.Need-first-requires Inv-loop μ-loop
 first-requires c κs = tt

@@ -21,7 +21,7 @@ abbrev empty-at : List ℕ → ℕ → Bool
 empty-at sets r = eqb (at sets r) 0
 
 abbrev Inv-loop : tie.InvT-loop
-Inv-loop roles sets rest₀ rest = Search (empty-at sets) (difference roles 3) rest
+Inv-loop roles sets rest₀ rest = Search role-count (empty-at sets) (difference roles 3) rest
 
 abbrev μ-loop : tie.MeasureT-loop
 μ-loop roles sets rest₀ rest = rest
@@ -30,7 +30,7 @@ difference-requires : tie.Need-difference-requires Inv-loop μ-loop
 difference-requires c κs = tt
 
 loop-holds : tie.Need-loop-holds Inv-loop μ-loop
-loop-holds c = rw (c .difference .ensures) (starts _ _ (difference-lt role-count _ _ (search needs)))
+loop-holds c = rw (c .difference .ensures) (starts role-count _ _ (difference-lt role-count _ _ (search needs)))
 
 first-requires : tie.Need-first-requires Inv-loop μ-loop
 first-requires c κs = tt

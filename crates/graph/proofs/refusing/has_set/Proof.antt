@@ -17,13 +17,13 @@ abbrev equal-at : List ℕ → ℕ → ℕ → Bool
 equal-at sets s r = eqb (at sets r) s
 
 abbrev Inv-loop : tie.InvT-loop
-Inv-loop among sets s rest₀ rest = Search (equal-at sets s) among rest
+Inv-loop among sets s rest₀ rest = Search role-count (equal-at sets s) among rest
 
 abbrev μ-loop : tie.MeasureT-loop
 μ-loop among sets s rest₀ rest = rest
 
 loop-holds : tie.Need-loop-holds Inv-loop μ-loop
-loop-holds c = starts _ _ (search needs)
+loop-holds c = starts role-count _ _ (search needs)
 
 first-requires : tie.Need-first-requires Inv-loop μ-loop
 first-requires c κs = tt

@@ -6,20 +6,20 @@ use mathlib.Core.Path.{_≡_, subst}
 use Prim.Native.Nat.{ℕ, _<_}
 use Rattle.sets.specs.Sets.{intersection}
 use Rattle.graph.specs.Tables.{at}
-use Rattle.graph.specs.Graph.{role-count}
+use Rattle.graph.specs.Graph.{role-count, privilege-count}
 use Rattle.graph.specs.Conflicts.{holds-pair}
 use Rattle.graph.proofs.Searching.{Search, starts, visit-lt, any-hit, goes-on, falls, any-miss, has-partner, partner-found, partner-none}
 use Rattle.graph.proofs.refusing.holds_pair.Statement.{statement}
 use Rattle.graph.proofs.refusing.holds_pair.Tie as tie
 
 abbrev Inv-loop : tie.InvT-loop
-Inv-loop conflicts s rest₀ rest = Search (has-partner conflicts s) s rest
+Inv-loop conflicts s rest₀ rest = Search privilege-count (has-partner privilege-count conflicts s) s rest
 
 abbrev μ-loop : tie.MeasureT-loop
 μ-loop conflicts s rest₀ rest = rest
 
 loop-holds : tie.Need-loop-holds Inv-loop μ-loop
-loop-holds c = starts _ _ (search needs)
+loop-holds c = starts privilege-count _ _ (search needs)
 
 first-requires : tie.Need-first-requires Inv-loop μ-loop
 first-requires c κs = tt

@@ -20,7 +20,7 @@ abbrev both-at : List ℕ → ℕ → ℕ → ℕ → Bool
 both-at sets a b r = holds-both a b (at sets r)
 
 abbrev Inv-loop : tie.InvT-loop
-Inv-loop roles sets a b rest₀ rest = Search (both-at sets (a .0) (b .0)) (difference roles 3) rest
+Inv-loop roles sets a b rest₀ rest = Search role-count (both-at sets (a .0) (b .0)) (difference roles 3) rest
 
 abbrev μ-loop : tie.MeasureT-loop
 μ-loop roles sets a b rest₀ rest = rest
@@ -29,7 +29,7 @@ difference-requires : tie.Need-difference-requires Inv-loop μ-loop
 difference-requires c κs = tt
 
 loop-holds : tie.Need-loop-holds Inv-loop μ-loop
-loop-holds c = rw (c .difference .ensures) (starts _ _ (difference-lt role-count _ _ (search needs)))
+loop-holds c = rw (c .difference .ensures) (starts role-count _ _ (difference-lt role-count _ _ (search needs)))
 
 first-requires : tie.Need-first-requires Inv-loop μ-loop
 first-requires c κs = tt

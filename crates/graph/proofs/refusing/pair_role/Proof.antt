@@ -9,7 +9,7 @@ use Prim.Native.Nat.{ℕ, _<_}
 use Rattle.sets.specs.Sets.{intersection, difference}
 use Rattle.sets.proofs.Laws.{difference-lt}
 use Rattle.graph.specs.Tables.{at}
-use Rattle.graph.specs.Graph.{role-count, effective}
+use Rattle.graph.specs.Graph.{role-count, effective, privilege-count}
 use Rattle.graph.specs.Conflicts.{holds-pair}
 use Rattle.graph.specs.Refusing.{pair-role}
 use Rattle.graph.proofs.Searching.{Search, starts, visit-lt, hit, any-hit, goes-on, falls, miss, any-miss, among-ordinary, has-partner, partner-found, partner-none}
@@ -21,13 +21,13 @@ abbrev pair-at : List ℕ → List ℕ → ℕ → Bool
 pair-at sets conflicts r = holds-pair conflicts (at sets r)
 
 abbrev Inv-loop : tie.InvT-loop
-Inv-loop roles sets conflicts place₀ rest r i left₀ place left = (place ≡ role-count) × Search (has-partner conflicts left₀) left₀ left
+Inv-loop roles sets conflicts place₀ rest r i left₀ place left = (place ≡ role-count) × Search privilege-count (has-partner privilege-count conflicts left₀) left₀ left
 
 abbrev μ-loop : tie.MeasureT-loop
 μ-loop roles sets conflicts place₀ rest r i left₀ place left = left
 
 abbrev Inv-roles : tie.InvT-roles
-Inv-roles roles sets conflicts place₀ rest₀ place rest = (place ≡ role-count) × Search (pair-at sets conflicts) (difference roles 3) rest
+Inv-roles roles sets conflicts place₀ rest₀ place rest = (place ≡ role-count) × Search role-count (pair-at sets conflicts) (difference roles 3) rest
 
 abbrev μ-roles : tie.MeasureT-roles
 μ-roles roles sets conflicts place₀ rest₀ place rest = rest
@@ -36,7 +36,7 @@ difference-requires : tie.Need-difference-requires Inv-loop μ-loop Inv-roles μ
 difference-requires c κs = tt
 
 roles-holds : tie.Need-roles-holds Inv-loop μ-loop Inv-roles μ-roles
-roles-holds c = (search needs, rw (c .difference .ensures) (starts _ _ (difference-lt role-count _ _ (search needs))))
+roles-holds c = (search needs, rw (c .difference .ensures) (starts role-count _ _ (difference-lt role-count _ _ (search needs))))
 
 first-requires : tie.Need-first-requires Inv-loop μ-loop Inv-roles μ-roles
 first-requires c κs = tt
@@ -48,7 +48,7 @@ entry-requires : tie.Need-entry-requires Inv-loop μ-loop Inv-roles μ-roles
 entry-requires c κs = tt
 
 loop-holds : tie.Need-loop-holds Inv-loop μ-loop Inv-roles μ-roles
-loop-holds c = (c .before .before .before .before .roles .inv .0, starts _ _ (search needs))
+loop-holds c = (c .before .before .before .before .roles .inv .0, starts privilege-count _ _ (search needs))
 
 first-requires-2 : tie.Need-first-requires-2 Inv-loop μ-loop Inv-roles μ-roles
 first-requires-2 c κs = tt

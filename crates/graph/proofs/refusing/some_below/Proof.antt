@@ -15,7 +15,7 @@ use Rattle.graph.proofs.refusing.some_below.Tie as tie
 
 abbrev Inv-loop : tie.InvT-loop
 Inv-loop roles sets all j top rest₀ rest =
-    Search (ways-below (drawn-from roles sets) all j) (intersection all (union (difference roles 3) 1)) rest
+    Search role-count (ways-below (drawn-from roles sets) all j) (intersection all (union (difference roles 3) 1)) rest
 
 abbrev μ-loop : tie.MeasureT-loop
 μ-loop roles sets all j top rest₀ rest = rest
@@ -48,7 +48,7 @@ loop-holds : tie.Need-loop-holds Inv-loop μ-loop
 loop-holds c =
     let a = c .before .before .before .before .before .before .before .before .args in
     rw (c .intersection .ensures, c .before .union .ensures, c .before .before .ordinary-roles .ensures)
-    (starts _ (intersection (a .all) (union (difference (a .roles) 3) 1)) (intersection-lt role-count (a .all) _ (search needs)))
+    (starts role-count _ (intersection (a .all) (union (difference (a .roles) 3) 1)) (intersection-lt role-count (a .all) _ (search needs)))
 
 -- The role j can lie above others.
 raised : (c : tie.After-intersection Inv-loop μ-loop)

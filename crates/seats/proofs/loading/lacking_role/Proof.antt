@@ -18,7 +18,7 @@ abbrev lacks : ℕ → List ℕ → ℕ → Bool
 lacks top sets r = not (included (at sets r) top)
 
 abbrev Inv-loop : tie.InvT-loop
-Inv-loop roles sets top rest₀ rest = Search (lacks top sets) (difference roles 3) rest
+Inv-loop roles sets top rest₀ rest = Search role-count (lacks top sets) (difference roles 3) rest
 
 abbrev μ-loop : tie.MeasureT-loop
 μ-loop roles sets top rest₀ rest = rest
@@ -30,7 +30,7 @@ difference-requires : tie.Need-difference-requires Inv-loop μ-loop
 difference-requires c κs = search needs
 
 loop-holds : tie.Need-loop-holds Inv-loop μ-loop
-loop-holds c = rw (c .difference .ensures) (starts _ _ (difference-lt role-count _ _ (search needs)))
+loop-holds c = rw (c .difference .ensures) (starts role-count _ _ (difference-lt role-count _ _ (search needs)))
 
 lowest-member-requires : tie.Need-lowest-member-requires Inv-loop μ-loop
 lowest-member-requires c κs = search needs

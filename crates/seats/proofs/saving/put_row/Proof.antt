@@ -2,6 +2,7 @@
 -- Assumes nothing.
 use borrow.Author.Needs.{needs}
 use Prim.Native.Nat.{_<_, _^_}
+use Rattle.graph.specs.Graph.{privilege-count}
 use Rattle.sets.proofs.Walks.{next-lt, next-falls}
 use Rattle.seats.specs.Images.{entry-bytes}
 use Rattle.seats.specs.ImageWork.{row-entries}
@@ -28,7 +29,7 @@ cast-higher c = search needs
 put-entry-requires : tie.Need-put-entry-requires Inv-loop μ-loop
 put-entry-requires c κs =
     let b = c .before in
-    member-room 1 (λ n. record { key = b .before .before .before .before .args .lower; value = n }) (b .before .before .loop .inv .0) (b .before .loop-test .taken) (b .lowest-member .ensures) (b .before .before .loop .inv .1)
+    member-room privilege-count 1 (λ n. record { key = b .before .before .before .before .args .lower; value = n }) (b .before .before .loop .inv .0) (b .before .loop-test .taken) (b .lowest-member .ensures) (b .before .before .loop .inv .1)
 
 without-lowest-requires : tie.Need-without-lowest-requires Inv-loop μ-loop
 without-lowest-requires c κs = search needs
@@ -42,7 +43,7 @@ loop-again : tie.Need-loop-again Inv-loop μ-loop
 loop-again c =
     let b = c .before .before .before .before .before in (
       rw (c .without-lowest .ensures) (next-lt 64 _ (b .before .before .loop .inv .0)),
-      member-written 1 (λ n. record { key = b .before .before .before .before .args .lower; value = n }) (b .before .before .loop .inv .0) (b .before .loop-test .taken) (b .lowest-member .ensures) (b .before .before .loop .inv .1)
+      member-written privilege-count 1 (λ n. record { key = b .before .before .before .before .args .lower; value = n }) (b .before .before .loop .inv .0) (b .before .loop-test .taken) (b .lowest-member .ensures) (b .before .before .loop .inv .1)
           (c .without-lowest .ensures) (c .before .before .before .put-entry .ensures),
     )
 
@@ -50,7 +51,7 @@ same-length : tie.Need-same-length Inv-loop μ-loop
 same-length c = writing-length (c .before .loop .inv .1)
 
 returns : tie.Need-returns Inv-loop μ-loop
-returns c = members-written 1 _ (c .loop-test .left) (c .before .loop .inv .1)
+returns c = members-written privilege-count 1 _ (c .loop-test .left) (c .before .loop .inv .1)
 
 pub put-row-spec : {M : Type 1} → statement M
 put-row-spec =

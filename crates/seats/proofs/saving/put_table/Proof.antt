@@ -39,7 +39,7 @@ entry-requires c κs = search needs
 put-entry-requires : tie.Need-put-entry-requires Inv-loop μ-loop
 put-entry-requires c κs =
     let b = c .before .before in
-    member-room 8 (valued (at (b .before .before .before .before .before .args .table .now))) (b .before .before .loop .inv .0) (b .before .loop-test .taken) (b .lowest-member .ensures) (b .before .before .loop .inv .1)
+    member-room 64 8 (valued (at (b .before .before .before .before .before .args .table .now))) (b .before .before .loop .inv .0) (b .before .loop-test .taken) (b .lowest-member .ensures) (b .before .before .loop .inv .1)
 
 without-lowest-requires : tie.Need-without-lowest-requires Inv-loop μ-loop
 without-lowest-requires c κs = search needs
@@ -54,7 +54,7 @@ loop-again c =
     let e = c .before .before .before .before in
     let b = e .before .before in (
       rw (c .without-lowest .ensures) (next-lt 64 _ (b .before .before .loop .inv .0)),
-      member-written 8 (valued (at (b .before .before .before .before .before .args .table .now))) (b .before .before .loop .inv .0) (b .before .loop-test .taken) (b .lowest-member .ensures) (b .before .before .loop .inv .1)
+      member-written 64 8 (valued (at (b .before .before .before .before .before .args .table .now))) (b .before .before .loop .inv .0) (b .before .loop-test .taken) (b .lowest-member .ensures) (b .before .before .loop .inv .1)
           (c .without-lowest .ensures) (rw (e .entry .ensures) at (c .before .before .before .put-entry .ensures)),
     )
 
@@ -62,7 +62,7 @@ same-length : tie.Need-same-length Inv-loop μ-loop
 same-length c = writing-length (c .before .loop .inv .1)
 
 returns : tie.Need-returns Inv-loop μ-loop
-returns c = members-written 8 _ (c .loop-test .left) (c .before .loop .inv .1)
+returns c = members-written 64 8 _ (c .loop-test .left) (c .before .loop .inv .1)
 
 pub put-table-spec : {M : Type 1} → statement M
 put-table-spec =

@@ -65,10 +65,14 @@ seats-counted c = conflicts-counted (c .before .before .before .before)
 abbrev Wrote-so-far : tie.After-distance → List ℕ → ℕ → List ℕ → Type 0
 Wrote-so-far c buffer place rest = Writing (entered c .args .buffer .now) 0 (image (state (entered c))) buffer place rest
 
-starts : (c : tie.Else1) → Wrote-so-far (c .before) (entered (c .before) .args .buffer .now) 0 (bytes-of 8 (at (entered (c .before) .args .sets .now) 1) ++ (roles-part (c .before) ++ (conflicts-part (c .before) ++ (seats-part (c .before) ++ trailer-part (c .before)))))
+-- What is written behind the end roles' sets.
+abbrev rest-part : tie.After-distance → List ℕ
+rest-part c = roles-part c ++ (conflicts-part c ++ (seats-part c ++ trailer-part c))
+
+starts : (c : tie.Else1) → Wrote-so-far (c .before) (entered (c .before) .args .buffer .now) 0 (bytes-of 8 (at (entered (c .before) .args .sets .now) 1) ++ rest-part (c .before))
 starts c = saving-starts (counted (c .before)) _ (c .if1 .left)
 
-top-written : (c : tie.After-put-number) → Wrote-so-far (top-counted c) (c .put-number .last .0) (c .put-number .result) (roles-part (top-counted c) ++ (conflicts-part (top-counted c) ++ (seats-part (top-counted c) ++ trailer-part (top-counted c))))
+top-written : (c : tie.After-put-number) → Wrote-so-far (top-counted c) (c .put-number .last .0) (c .put-number .result) (rest-part (top-counted c))
 top-written c = writing-next (bytes-of 8 (at (entered (top-counted c) .args .sets .now) 1)) _ (starts (c .before .before .before)) (rw (c .before .entry .ensures) at (c .put-number .ensures))
 
 roles-written : (c : tie.After-put-table) → Wrote-so-far (roles-counted c) (c .put-table .last .0) (c .put-table .result) (conflicts-part (roles-counted c) ++ (seats-part (roles-counted c) ++ trailer-part (roles-counted c)))
