@@ -4,6 +4,7 @@ use Prim.Native.Nat.{ℕ}
 use Rattle.graph.specs.Graph.{Graph}
 use Rattle.graph.specs.Editing.{Change, add-by-place, add-by-privileges, remove-role, grant, withdraw, add-edge, remove-edge}
 use Rattle.graph.specs.Refusing.{Verdict, passed, refused, keep}
+use Rattle.graph.specs.declared.PrivilegeSet as privilege-set-struct
 use Rattle.graph.specs.declared.Graph as graph-struct
 use Rattle.graph.specs.declared.Verdict as verdict-enum
 use Rattle.graph.specs.declared.Verdict.the-variants as verdicts
@@ -11,6 +12,10 @@ use Rattle.graph.specs.declared.Outcome as outcome-struct
 use Rattle.graph.specs.declared.Attempt as attempt-struct
 use Rattle.graph.specs.declared.Change as change-enum
 use Rattle.graph.specs.declared.Change.the-variants as changes
+
+-- A set of privileges as the code holds it.
+abbrev pub read-set : privilege-set-struct.PrivilegeSet → ℕ
+read-set s = s .word
 
 -- The graph of these roles and sets, whatever the conflicts: its order, edges and direct privileges do not depend on them.
 abbrev pub drawn-from : ℕ → List ℕ → Graph

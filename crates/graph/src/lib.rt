@@ -6,6 +6,7 @@ pub mod declaring;
 pub mod drawing;
 pub mod editing;
 mod entries;
+pub mod privileges;
 pub mod refusing;
 pub mod table;
 
@@ -14,6 +15,11 @@ pub struct Role(pub u8);
 
 // A privilege's number.
 pub struct Privilege(pub u8);
+
+// A set of privileges.
+pub struct PrivilegeSet {
+    pub word: u64,
+}
 
 // The ordinary roles present, each role's effective set, and under each privilege the higher ones in conflict with it.
 pub struct Graph {
