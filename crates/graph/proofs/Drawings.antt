@@ -16,7 +16,8 @@ use Rattle.sets.proofs.Members.{in-empty, in-difference, difference-in, in-gath
 use Rattle.order.specs.Paths.{drawn}
 use Rattle.graph.specs.Tables.{at, table}
 use Rattle.graph.specs.Graph.{Graph, role-count, min-role, max-role, is-end, ordinary, present, effective}
-use Rattle.graph.specs.Drawing.{below, edge, juniors, seniors, edge-count, direct, roles-below, direct-table}
+use Rattle.graph.specs.Drawing.{below, edge, juniors, seniors, edge-count, direct, roles-below}
+use Rattle.graph.specs.Working.{less-juniors}
 use Rattle.graph.proofs.Tables.{length-table, at-table, table-ext}
 use Rattle.graph.proofs.Order.{Under, from-min, to-max, inside, is-end-lt, lt-is-end, ordinary-parts, present-cases, ordinary-present, end-present, ordinary-lt, present-lt, below-cases, below-join, min-below, above-min, not-above-max, edge-below, path-iff-below, none-between, below-junior, path-iff-included}
 
@@ -336,8 +337,8 @@ module _ (g : Graph) (h : g .roles < 2 ^ role-count) (all : ℕ) (c : Covers g a
   lowers-table = table-cong role-count _ _ (λ s _. chosen (member s all) (roles-below g s) 0 (roles-below g s) (λ _. refl) (λ f. sym (outside s f)))
 
   -- Taking from the roles below each role those below these leaves the immediate juniors.
-  pub juniors-table : direct-table all (table role-count (roles-below g)) (table role-count (roles-below g)) ≡ table role-count (juniors g)
-  unfolding direct-table
+  pub juniors-table : less-juniors all (table role-count (roles-below g)) (table role-count (roles-below g)) ≡ table role-count (juniors g)
+  unfolding less-juniors
   juniors-table = table-cong role-count _ (juniors g) (λ s l. chosen (member s all) _ _ (juniors g s) (λ _. taken s l) (λ f. at-table role-count s (roles-below g) l ∙ outside s f ∙ sym (no-juniors s f)))
     where
       lower : List ℕ
@@ -351,8 +352,8 @@ module _ (g : Graph) (h : g .roles < 2 ^ role-count) (all : ℕ) (c : Covers g a
           ∙ juniors-picked g s
 
   -- Taking from each role's set what its immediate juniors have leaves its direct privileges.
-  pub directs-table : direct-table all (g .sets) (table role-count (juniors g)) ≡ table role-count (direct g)
-  unfolding direct-table
+  pub directs-table : less-juniors all (g .sets) (table role-count (juniors g)) ≡ table role-count (direct g)
+  unfolding less-juniors
   directs-table = table-cong role-count _ (direct g) (λ s l. chosen (member s all) _ _ (direct g s) (λ _. ap (less s) (at-table role-count s (juniors g) l) ∙ direct-picked g s) (kept s))
     where
       less : ℕ → ℕ → ℕ

@@ -1,4 +1,6 @@
 pub mod Tables
+pub mod PrivilegeTables
+pub mod Emptiness
 pub mod Order
 pub mod Refusals
 pub mod Conflicts
@@ -9,8 +11,6 @@ pub mod Drawn
 pub mod Placing
 pub mod Edits
 pub mod Arrays
-pub mod Carrying
-pub mod Attempts
 pub mod Changes
 pub mod Adding
 pub mod Drawings

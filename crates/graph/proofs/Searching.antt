@@ -10,7 +10,7 @@ use native.Mathlib.Omega.{arith}
 use borrow.Author.Tests.{eq-eqb, ne-eqb}
 use lib.Dec.{T, T-not, not-T, eqb, ltb, ltb→lt, lt→ltb}
 use Rattle.sets.specs.Counting.{any, lowest}
-use Rattle.sets.specs.Sets.{member, single, union, intersection, difference, strictly-included, lowest-member, without-lowest}
+use Rattle.sets.specs.Sets.{member, single, union, intersection, meets, difference, strictly-included, lowest-member, without-lowest}
 use Rattle.sets.proofs.Tests.{both, join, either, or-left, or-right, same-test, passes, fails, decide, so, equal-test, test-equal, and-regroup}
 use Rattle.sets.proofs.Counting.{any-some, some-any, any-cong, lowest-lt, lowest-none, lowest-cong}
 use Rattle.sets.proofs.Laws.{member-lt, member-intersection, intersection-lt}
@@ -50,7 +50,8 @@ lowest-bound s =
 abbrev has-common : ℕ → ℕ → ℕ → Bool
 has-common w s t = any w (λ n. member n s && member n t)
 
-common-test : (w s t : ℕ) → s < 2 ^ w → has-common w s t ≡ not (eqb (intersection s t) 0)
+common-test : (w s t : ℕ) → s < 2 ^ w → has-common w s t ≡ meets s t
+unfolding meets
 common-test w s t h = same-test (has-common w s t) (not (eqb (intersection s t) 0)) there back
   where
     there : T (has-common w s t) → T (not (eqb (intersection s t) 0))
@@ -234,18 +235,12 @@ has-partner w C all p = any w (λ q. member q all && conflict C p q)
 -- The partners of p are among those left after it.
 module _ (C : List ℕ) {w all rest : ℕ} (s : Search w (has-partner w C all) all rest) (some : rest ≢ 0) {p : ℕ} (e : p ≡ lowest-member w rest)
     {next : ℕ} (d : next ≡ without-lowest w rest) where
-  partner-test : has-partner w C all p ≡ not (eqb (intersection next (at C p)) 0)
+  pub partner-test : has-partner w C all p ≡ meets next (at C p)
   unfolding conflict
   partner-test =
       any-cong w (λ q. member q all && conflict C p q) (λ q. member q next && member q (at C p))
       (λ q _. and-regroup (member q all) (ltb p q) (member q (at C p)) ∙ ap (λ (b : Bool). b && member q (at C p)) (sym (next-higher s some e d q)))
       ∙ common-test w next (at C p) (next-lt s some e d)
-
-  pub partner-found : intersection next (at C p) ≢ 0 → has-partner w C all p ≡ true
-  partner-found h = partner-test ∙ ap not (ne-eqb (intersection next (at C p)) 0 h)
-
-  pub partner-none : intersection next (at C p) ≡ 0 → has-partner w C all p ≡ false
-  partner-none z = partner-test ∙ ap not (eq-eqb (intersection next (at C p)) 0 z)
 
 -- ---- circles
 -- Whether some role of `all` lies below j.

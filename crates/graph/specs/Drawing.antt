@@ -1,12 +1,10 @@
 -- Document 01, "Closing and redrawing", redrawing: the order, the edges and the direct privileges that the effective sets define.
-use mathlib.Core.Bool.{Bool, cond, not, _&&_, _||_}
-use mathlib.Core.List.{List}
+use mathlib.Core.Bool.{Bool, not, _&&_, _||_}
 use Prim.Native.Nat.{ℕ}
 use lib.Dec.{eqb}
 use Rattle.sets.specs.Counting.{count, sum}
-use Rattle.sets.specs.Sets.{member, difference, gather, collect, strictly-included}
+use Rattle.sets.specs.Sets.{difference, gather, collect, strictly-included}
 use Rattle.order.specs.Paths.{drawn}
-use Rattle.graph.specs.Tables.{at, table}
 use Rattle.graph.specs.Graph.{Graph, role-count, min-role, max-role, ordinary, present, effective}
 
 -- r lies below s: MinRole below all other roles, all others below MaxRole, and an ordinary role below one whose set strictly includes its own.
@@ -51,8 +49,3 @@ redraw g = record { roles = g .roles; directs = direct g; joins = edge g }
 -- The roles below s.
 abbrev pub roles-below : Graph → ℕ → ℕ
 roles-below g s = collect role-count (λ r. below g r s)
-
--- Sets less those of immediate juniors, by a table of these: each role of `all` loses what its juniors have, and any other role keeps its set.
-unfoldable pub direct-table : ℕ → List ℕ → List ℕ → List ℕ
-direct-table all sets juniors =
-    table role-count (λ s. cond (member s all) (difference (at sets s) (gather role-count (λ r. member r (at juniors s)) (at sets))) (at sets s))

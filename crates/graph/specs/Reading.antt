@@ -5,11 +5,8 @@ use Rattle.graph.specs.Graph.{Graph}
 use Rattle.graph.specs.Editing.{Change, add-by-place, add-by-privileges, remove-role, grant, withdraw, add-edge, remove-edge}
 use Rattle.graph.specs.Refusing.{Verdict, passed, refused, keep}
 use Rattle.graph.specs.declared.PrivilegeSet as privilege-set-struct
-use Rattle.graph.specs.declared.Graph as graph-struct
 use Rattle.graph.specs.declared.Verdict as verdict-enum
 use Rattle.graph.specs.declared.Verdict.the-variants as verdicts
-use Rattle.graph.specs.declared.Outcome as outcome-struct
-use Rattle.graph.specs.declared.Attempt as attempt-struct
 use Rattle.graph.specs.declared.Change as change-enum
 use Rattle.graph.specs.declared.Change.the-variants as changes
 
@@ -17,17 +14,17 @@ use Rattle.graph.specs.declared.Change.the-variants as changes
 abbrev pub read-set : privilege-set-struct.PrivilegeSet → ℕ
 read-set s = s .word
 
+-- The sets of privileges that a table's words hold, by number.
+unfoldable pub sets-in : List ℕ → List ℕ
+sets-in words = words
+
 -- The graph of these roles and sets, whatever the conflicts: its order, edges and direct privileges do not depend on them.
 abbrev pub drawn-from : ℕ → List ℕ → Graph
-drawn-from roles sets = record { roles = roles; sets = sets; conflicts = [] }
+drawn-from roles sets = record { roles = roles; sets = sets-in sets; conflicts = [] }
 
 -- The graph of these roles, sets and conflicts.
 abbrev pub graph-of : ℕ → List ℕ → List ℕ → Graph
-graph-of roles sets conflicts = record { roles = roles; sets = sets; conflicts = conflicts }
-
--- A graph as the code holds it.
-abbrev pub read-graph : graph-struct.Graph → Graph
-read-graph g = graph-of (g .roles) (g .sets) (g .conflicts)
+graph-of roles sets conflicts = record { roles = roles; sets = sets-in sets; conflicts = sets-in conflicts }
 
 -- A verdict's number and place.
 unfoldable pub read-verdict : verdict-enum.Verdict → Verdict
@@ -36,18 +33,10 @@ read-verdict (verdicts.Refused r) = refused (r .number) (r .place)
 
 -- A change's kind and fields.
 unfoldable pub read-change : change-enum.Change → Change
-read-change (changes.AddByPlace a own juniors seniors) = add-by-place (a .0) own juniors seniors
-read-change (changes.AddByPrivileges a own) = add-by-privileges (a .0) own
+read-change (changes.AddByPlace a own juniors seniors) = add-by-place (a .0) (read-set own) juniors seniors
+read-change (changes.AddByPrivileges a own) = add-by-privileges (a .0) (read-set own)
 read-change (changes.RemoveRole a b) = remove-role (a .0) b
 read-change (changes.Grant a b) = grant (a .0) (b .0)
 read-change (changes.Withdraw a b) = withdraw (a .0) (b .0)
 read-change (changes.AddEdge a b) = add-edge (a .0) (b .0)
 read-change (changes.RemoveEdge a b) = remove-edge (a .0) (b .0)
-
--- What a call comes to: its verdict, and the graph after it.
-abbrev pub read-outcome : outcome-struct.Outcome → Verdict × Graph
-read-outcome o = (read-verdict (o .verdict), read-graph (o .graph))
-
--- What a change of g comes to before 26 to 30 are judged: its verdict, and the graph after it; a refused one leaves g.
-abbrev pub read-attempt : Graph → attempt-struct.Attempt → Verdict × Graph
-read-attempt g a = keep (read-verdict (a .verdict)) g (drawn-from (a .roles) (a .sets))

@@ -1,9 +1,7 @@
 -- Tables: a list whose entry n belongs to the number n.
-use mathlib.Core.Bool.{cond}
 use mathlib.Core.List.{List, [], _∷_}
 use Prim.Native.Nat.{ℕ, zero, suc}
 use lib.ListN.{getD, set}
-use lib.Dec.{ltb}
 use Rattle.sets.specs.Sets.{single, union, difference}
 
 -- Entry n of a table; the empty set beyond its end.
@@ -26,7 +24,3 @@ put l a b = set l a (union (at l a) (single b))
 -- Member b taken out of entry a.
 unfoldable pub take-out : List ℕ → ℕ → ℕ → List ℕ
 take-out l a b = set l a (difference (at l a) (single b))
-
--- The table with s as its entry n; the number 64 stands for no entry.
-unfoldable pub stored : List ℕ → ℕ → ℕ → List ℕ
-stored l n s = cond (ltb n 64) (set l n s) l

@@ -1,13 +1,13 @@
 -- What the contracts of private functions speak of: drawings held in tables, and edges without a circle.
 use mathlib.Core.Path.{_≡_}
-use mathlib.Core.Bool.{Bool, false, not, _&&_, _||_}
+use mathlib.Core.Bool.{Bool, false, cond, not, _&&_, _||_}
 use mathlib.Core.List.{List}
 use Prim.Native.Nat.{ℕ, zero, suc, _<_, _≤_}
 use lib.ListN.{length}
 use lib.Dec.{T}
 use Rattle.sets.specs.Counting.{any}
-use Rattle.sets.specs.Sets.{empty, member}
-use Rattle.graph.specs.Tables.{at}
+use Rattle.sets.specs.Sets.{empty, member, difference, gather}
+use Rattle.graph.specs.Tables.{at, table}
 use Rattle.graph.specs.Graph.{role-count, max-role, is-end}
 use Rattle.graph.specs.Drawing.{Drawing}
 use Rattle.graph.specs.Closing.{gathered}
@@ -15,6 +15,11 @@ use Rattle.graph.specs.Closing.{gathered}
 -- A drawing whose direct privileges and juniors stand in tables by role number.
 abbrev pub drawing-of : ℕ → List ℕ → List ℕ → Drawing
 drawing-of roles directs juniors = record { roles = roles; directs = at directs; joins = λ t r. member t (at juniors r) }
+
+-- Sets less those of immediate juniors, by a table of these: each role of `all` loses what its juniors have, and any other role keeps its set.
+unfoldable pub less-juniors : ℕ → List ℕ → List ℕ → List ℕ
+less-juniors all sets juniors =
+    table role-count (λ s. cond (member s all) (difference (at sets s) (gather role-count (λ r. member r (at juniors s)) (at sets))) (at sets s))
 
 -- A role of a drawing with the ordinary roles R.
 abbrev pub has-role : ℕ → ℕ → Bool

@@ -6,12 +6,14 @@ ghost use Rattle.sets.specs.Sets.{member};
 ghost use Rattle.graph.specs.Graph.{present};
 ghost use Rattle.graph.specs.Editing.{add-by-place, add-by-privileges, grant, withdraw, add-edge, remove-edge};
 ghost use Rattle.graph.specs.Refusing.{no-role-number, no-privilege-number, end-role, edge-to-itself, role-absent, verdict, early, state-checks};
-ghost use Rattle.graph.specs.Reading.{drawn-from, read-verdict, read-change};
+ghost use Rattle.graph.specs.Reading.{read-set, drawn-from, read-verdict, read-change};
 use crate::Change;
 use crate::Privilege;
+use crate::PrivilegeSet;
 use crate::Role;
 use crate::Verdict;
 use crate::drawing;
+use crate::privileges;
 use crate::refusing;
 use crate::refusing::refuse;
 
@@ -32,8 +34,15 @@ fn in_either(r: u8, s: u64, t: u64) -> bool
 }
 
 // Kind 1, by the fields and the roles.
-fn judge_place(roles: u64, sets: &[u64], a: Role, own: u64, juniors: u64, seniors: u64) -> Verdict
-    ensures { λ v. ⌜ read-verdict v ≡ early (drawn-from roles (now (sets .entry))) (add-by-place (a .0) own juniors seniors) ⌝ }
+fn judge_place(
+    roles: u64,
+    sets: &[u64],
+    a: Role,
+    own: PrivilegeSet,
+    juniors: u64,
+    seniors: u64,
+) -> Verdict
+    ensures { λ v. ⌜ read-verdict v ≡ early (drawn-from roles (now (sets .entry))) (add-by-place (a .0) (read-set own) juniors seniors) ⌝ }
 {
     let r = a.0;
     if 64 <= r {
@@ -79,8 +88,8 @@ fn judge_edges(roles: u64, sets: &[u64], r: u8, juniors: u64, seniors: u64) -> V
 }
 
 // Kind 2.
-fn judge_add(roles: u64, sets: &[u64], a: Role, own: u64) -> Verdict
-    ensures { λ v. ⌜ read-verdict v ≡ early (drawn-from roles (now (sets .entry))) (add-by-privileges (a .0) own) ⌝ }
+fn judge_add(roles: u64, sets: &[u64], a: Role, own: PrivilegeSet) -> Verdict
+    ensures { λ v. ⌜ read-verdict v ≡ early (drawn-from roles (now (sets .entry))) (add-by-privileges (a .0) (read-set own)) ⌝ }
 {
     let r = a.0;
     if 64 <= r {
@@ -140,8 +149,7 @@ fn judge_grant(roles: u64, sets: &[u64], a: Role, b: Privilege) -> Verdict
     let Verdict::Passed = named else {
         return named;
     };
-    let held = drawing::effective_of(sets, a);
-    if sets::member(b.0 as usize, held) {
+    if privileges::member(b, drawing::effective_of(sets, a)) {
         return refuse(22, a.0);
     }
     Verdict::Passed

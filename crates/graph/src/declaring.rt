@@ -1,23 +1,21 @@
-// Conflicts of two privileges: whether one is declared, and kinds 8 and 9, which declare and lift one.
+// Conflicts of two privileges: whether one is declared, and what kinds 8 and 9, which declare and lift one, refuse and store.
 ghost use mathlib.Core.Path.{_≡_};
-ghost use mathlib.Core.Bool.{cond};
 ghost use mathlib.Core.List.{[], _∷_};
 ghost use Prim.Native.Nat.{min, max};
-ghost use lib.ListN.{set};
 ghost use lib.Dec.{ltb};
+ghost use Rattle.sets.specs.Sets.{single, union, difference, when};
+ghost use Rattle.graph.specs.Tables.{at};
 ghost use Rattle.graph.specs.Graph.{privilege-count};
 ghost use Rattle.graph.specs.Conflicts as spec;
-ghost use Rattle.graph.specs.Refusing.{no-privilege-number, pair-of-one, verdict, keep, declare-checks, lift-checks};
-ghost use Rattle.graph.specs.Reading.{graph-of, read-graph, read-verdict, read-outcome};
+ghost use Rattle.graph.specs.Refusing.{no-privilege-number, pair-of-one, verdict, declare-checks, lift-checks};
+ghost use Rattle.graph.specs.Reading.{read-set, sets-in, graph-of, read-verdict};
 use super::refusing::offered_role;
 use super::refusing::refuse;
-use crate::Entry;
-use crate::Graph;
-use crate::Outcome;
+use crate::ConflictEntry;
 use crate::Privilege;
 use crate::Verdict;
+use crate::privileges;
 use crate::table::entry;
-use crate::table::store;
 
 // The lower of two privileges.
 fn lower_of(a: Privilege, b: Privilege) -> usize
@@ -31,23 +29,19 @@ fn lower_of(a: Privilege, b: Privilege) -> usize
 }
 
 // The higher of two privileges.
-fn higher_of(a: Privilege, b: Privilege) -> usize
-    ensures { λ r. ⌜ r ≡ max (a .0) (b .0) ⌝ }
+fn higher_of(a: Privilege, b: Privilege) -> Privilege
+    ensures { λ r. ⌜ r .0 ≡ max (a .0) (b .0) ⌝ }
 {
-    if a.0 < b.0 {
-        b.0 as usize
-    } else {
-        a.0 as usize
-    }
+    if a.0 < b.0 { b } else { a }
 }
 
 // Whether the conflict of a and b is declared.
 pub fn is_declared(conflicts: &[u64], a: Privilege, b: Privilege) -> bool
-    ensures { λ r. ⌜ r ≡ spec.declared (now (conflicts .entry)) (a .0) (b .0) ⌝ }
+    ensures { λ r. ⌜ r ≡ spec.declared (sets-in (now (conflicts .entry))) (a .0) (b .0) ⌝ }
 {
     let lower = lower_of(a, b);
     let higher = higher_of(a, b);
-    lower < higher && sets::member(higher, entry(conflicts, lower))
+    lower < higher.0 as usize && privileges::member(higher, entry(conflicts, lower))
 }
 
 // Refusals 2 and 4: a number that is no privilege's, and a conflict of a privilege with itself.
@@ -105,48 +99,20 @@ pub fn judge_lift(conflicts: &[u64], a: Privilege, b: Privilege) -> Verdict
     }
 }
 
-// The entry of the lower privilege where the conflict of a and b is declared.
-pub fn declared(conflicts: &[u64], a: Privilege, b: Privilege) -> Entry
-    ensures { λ r. let C = now (conflicts .entry) in ⌜ (r .number ≡ min (a .0) (b .0)) × (set C (r .number) (r .set) ≡ cond (ltb (max (a .0) (b .0)) privilege-count) (spec.declare C (a .0) (b .0)) C) ⌝ }
+// The lower privilege's entry with the higher one in it; a number beyond the privileges puts nothing in.
+pub fn with_conflict(conflicts: &[u64], a: Privilege, b: Privilege) -> ConflictEntry
+    ensures { λ r. let C = sets-in (now (conflicts .entry)) in ⌜ (r .lower ≡ min (a .0) (b .0)) × (read-set (r .higher) ≡ union (at C (min (a .0) (b .0))) (when (ltb (max (a .0) (b .0)) privilege-count) (single (max (a .0) (b .0))))) ⌝ }
 {
-    let number = lower_of(a, b);
-    let higher = higher_of(a, b);
-    let set = sets::insert(entry(conflicts, number), higher);
-    Entry { number, set }
+    let lower = lower_of(a, b);
+    let higher = privileges::insert(entry(conflicts, lower), higher_of(a, b));
+    ConflictEntry { lower, higher }
 }
 
-// The entry of the lower privilege where the conflict of a and b is lifted.
-pub fn lifted(conflicts: &[u64], a: Privilege, b: Privilege) -> Entry
-    ensures { λ r. let C = now (conflicts .entry) in ⌜ (r .number ≡ min (a .0) (b .0)) × (set C (r .number) (r .set) ≡ spec.lift C (a .0) (b .0)) ⌝ }
+// The lower privilege's entry with the higher one taken out.
+pub fn without_conflict(conflicts: &[u64], a: Privilege, b: Privilege) -> ConflictEntry
+    ensures { λ r. let C = sets-in (now (conflicts .entry)) in ⌜ (r .lower ≡ min (a .0) (b .0)) × (read-set (r .higher) ≡ difference (at C (min (a .0) (b .0))) (single (max (a .0) (b .0)))) ⌝ }
 {
-    let number = lower_of(a, b);
-    let higher = higher_of(a, b);
-    let set = sets::remove(entry(conflicts, number), higher);
-    Entry { number, set }
-}
-
-// Kind 8: the conflict of a and b is declared.
-pub fn declare(mut graph: Graph, a: Privilege, b: Privilege) -> Outcome
-    ensures { λ r. let g = read-graph graph in ⌜ read-outcome r ≡ keep (verdict (declare-checks g (a .0) (b .0))) g (graph-of (graph .roles) (graph .sets) (spec.declare (graph .conflicts) (a .0) (b .0))) ⌝ }
-{
-    let verdict = judge_declare(graph.roles, &graph.sets, &graph.conflicts, a, b);
-    let Verdict::Passed = verdict else {
-        return Outcome { verdict, graph };
-    };
-    let entry = declared(&graph.conflicts, a, b);
-    store(&mut graph.conflicts, entry);
-    Outcome { verdict, graph }
-}
-
-// Kind 9: the conflict of a and b is lifted.
-pub fn lift(mut graph: Graph, a: Privilege, b: Privilege) -> Outcome
-    ensures { λ r. let g = read-graph graph in ⌜ read-outcome r ≡ keep (verdict (lift-checks g (a .0) (b .0))) g (graph-of (graph .roles) (graph .sets) (spec.lift (graph .conflicts) (a .0) (b .0))) ⌝ }
-{
-    let verdict = judge_lift(&graph.conflicts, a, b);
-    let Verdict::Passed = verdict else {
-        return Outcome { verdict, graph };
-    };
-    let entry = lifted(&graph.conflicts, a, b);
-    store(&mut graph.conflicts, entry);
-    Outcome { verdict, graph }
+    let lower = lower_of(a, b);
+    let higher = privileges::remove(entry(conflicts, lower), higher_of(a, b));
+    ConflictEntry { lower, higher }
 }

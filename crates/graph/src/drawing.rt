@@ -5,14 +5,20 @@ ghost use Rattle.sets.specs.Counting.{any, sum};
 ghost use Rattle.sets.specs.Sets.{member, union, difference, strictly-included, size, collect, gather};
 ghost use Rattle.graph.specs.Tables.{at, table};
 ghost use Rattle.graph.specs.Graph.{role-count};
-ghost use Rattle.graph.specs.Drawing.{below, edge, juniors, seniors, edge-count, direct, roles-below, direct-table};
-ghost use Rattle.graph.specs.Reading.{drawn-from};
+ghost use Rattle.graph.specs.Drawing.{below, edge, juniors, seniors, edge-count, direct, roles-below};
+ghost use Rattle.graph.specs.Reading.{read-set, sets-in, drawn-from};
+ghost use Rattle.graph.specs.Working.{less-juniors};
 use crate::Privilege;
+use crate::PrivilegeSet;
 use crate::Role;
 use crate::entries::seniors_in;
-use crate::entries::whole;
+use crate::privileges;
+use crate::table::SetTable;
 use crate::table::entry;
-use crate::table::gathered;
+use crate::table::roles_at;
+use crate::table::store;
+use crate::table::union_at;
+use crate::table::whole;
 
 // The ordinary roles: those present without the numbers of the end roles.
 pub fn ordinary_roles(roles: u64) -> u64
@@ -29,14 +35,14 @@ pub fn senior_roles(roles: u64) -> u64
 }
 
 // The roles of `all` whose sets are strictly included in `top`.
-fn included_in(all: u64, sets: &[u64], top: u64) -> u64
-    ensures { λ v. ⌜ v ≡ collect role-count (λ r. member r all && strictly-included (at (now (sets .entry)) r) top) ⌝ }
+fn included_in(all: u64, sets: &[u64], top: PrivilegeSet) -> u64
+    ensures { λ v. ⌜ v ≡ collect role-count (λ r. member r all && strictly-included (at (sets-in (now (sets .entry))) r) (read-set top)) ⌝ }
 {
     let mut found: u64 = 0;
     let mut rest = all;
     while rest != 0 {
         let r = sets::lowest_member(rest) as usize;
-        let on = sets::strictly_included(entry(sets, r), top);
+        let on = privileges::strictly_included(entry(sets, r), top);
         found = sets::union(found, sets::when(on, sets::lowest_alone(rest)));
         rest = sets::without_lowest(rest);
     }
@@ -73,27 +79,48 @@ fn lowers(roles: u64, sets: &[u64]) -> [u64; 64]
 }
 
 // The direct sets of the roles in `all`, by a table of their immediate juniors; any other role keeps its set.
-pub fn direct_sets(all: u64, sets: &[u64], juniors: &[u64; 64]) -> [u64; 64]
-    ensures { λ v. ⌜ v ≡ direct-table all (now (sets .entry)) (now (juniors .entry)) ⌝ }
+pub(crate) fn direct_sets(all: u64, sets: &[u64], juniors: &[u64; 64]) -> SetTable
+    ensures { λ v. ⌜ sets-in v ≡ less-juniors all (sets-in (now (sets .entry))) (now (juniors .entry)) ⌝ }
 {
     let mut direct = whole(sets);
     let mut rest = all;
     while rest != 0 {
         let s = sets::lowest_member(rest) as usize;
-        let held = gathered(sets, juniors[s]);
-        direct[s] = sets::difference(entry(sets, s), held);
+        let held = union_at(sets, roles_at(juniors, s));
+        store(&mut direct, s, privileges::difference(entry(sets, s), held));
         rest = sets::without_lowest(rest);
     }
     direct
 }
 
-// By role number, the immediate juniors of each role: the roles below it without those below these, taken as direct sets are.
+// The roles below some member of `all`, by a table of the roles below each.
+fn under_some(lower: &[u64; 64], all: u64) -> u64
+    ensures { λ v. ⌜ v ≡ gather role-count (λ r. member r all) (at (now (lower .entry))) ⌝ }
+{
+    let mut found: u64 = 0;
+    let mut rest = all;
+    while rest != 0 {
+        let r = sets::lowest_member(rest) as usize;
+        found = sets::union(found, roles_at(lower, r));
+        rest = sets::without_lowest(rest);
+    }
+    found
+}
+
+// By role number, the immediate juniors of each role: the roles below it that lie below none of these.
 pub fn draw(roles: u64, sets: &[u64]) -> [u64; 64]
     ensures { λ v. ⌜ v ≡ table role-count (juniors (drawn-from roles (now (sets .entry)))) ⌝ }
 {
     let lower = lowers(roles, sets);
-    let under = &lower;
-    direct_sets(senior_roles(roles), under, under)
+    let mut juniors = lower;
+    let mut rest = senior_roles(roles);
+    while rest != 0 {
+        let s = sets::lowest_member(rest) as usize;
+        let under = roles_at(&lower, s);
+        juniors[s] = sets::difference(under, under_some(&lower, under));
+        rest = sets::without_lowest(rest);
+    }
+    juniors
 }
 
 // The sizes of a table's entries at the members of `all`, together.
@@ -124,7 +151,7 @@ fn lies_below(roles: u64, sets: &[u64], r: usize, s: usize) -> bool
 {
     let high = sets::member(s, senior_roles(roles));
     let low = sets::member(r, sets::union(ordinary_roles(roles), 1));
-    let strict = sets::strictly_included(entry(sets, r), entry(sets, s));
+    let strict = privileges::strictly_included(entry(sets, r), entry(sets, s));
     high & (low & ((s == 1) | ((r == 0) | strict)))
 }
 
@@ -190,37 +217,36 @@ pub fn seniors_of(roles: u64, sets: &[u64], r: Role) -> u64
 }
 
 // The effective privileges of s.
-pub fn effective_of(sets: &[u64], s: Role) -> u64
-    ensures { λ v. ⌜ v ≡ at (now (sets .entry)) (s .0) ⌝ }
+pub fn effective_of(sets: &[u64], s: Role) -> PrivilegeSet
+    ensures { λ v. ⌜ read-set v ≡ at (sets-in (now (sets .entry))) (s .0) ⌝ }
 {
     entry(sets, s.0 as usize)
 }
 
 // What the immediate juniors of s have: what the ordinary roles below s have, and where there is none what MinRole has.
-fn inherited(roles: u64, sets: &[u64], s: usize) -> u64
-    ensures { λ v. let g = drawn-from roles (now (sets .entry)) in ⌜ v ≡ gather role-count (λ r. edge g r s) (at (now (sets .entry))) ⌝ }
+fn inherited(roles: u64, sets: &[u64], s: usize) -> PrivilegeSet
+    ensures { λ v. let g = drawn-from roles (now (sets .entry)) in ⌜ read-set v ≡ gather role-count (λ r. edge g r s) (at (sets-in (now (sets .entry)))) ⌝ }
 {
     let under = lower(roles, sets, s);
     let ordinary = sets::difference(under, 1);
     let among = if ordinary == 0 { under } else { ordinary };
-    gathered(sets, among)
+    union_at(sets, among)
 }
 
 // The direct privileges of s: its effective ones that no immediate junior has.
-pub fn direct_of(roles: u64, sets: &[u64], s: Role) -> u64
-    ensures { λ v. ⌜ v ≡ direct (drawn-from roles (now (sets .entry))) (s .0) ⌝ }
+pub fn direct_of(roles: u64, sets: &[u64], s: Role) -> PrivilegeSet
+    ensures { λ v. ⌜ read-set v ≡ direct (drawn-from roles (now (sets .entry))) (s .0) ⌝ }
 {
     let held = inherited(roles, sets, s.0 as usize);
-    sets::difference(effective_of(sets, s), held)
+    privileges::difference(effective_of(sets, s), held)
 }
 
 // Whether the privilege is direct in s; what s does not hold is not, whatever its juniors have.
 pub fn is_direct(roles: u64, sets: &[u64], s: Role, privilege: Privilege) -> bool
     ensures { λ v. ⌜ v ≡ member (privilege .0) (direct (drawn-from roles (now (sets .entry))) (s .0)) ⌝ }
 {
-    let p = privilege.0 as usize;
-    if !sets::member(p, effective_of(sets, s)) {
+    if !privileges::member(privilege, effective_of(sets, s)) {
         return false;
     }
-    !sets::member(p, inherited(roles, sets, s.0 as usize))
+    !privileges::member(privilege, inherited(roles, sets, s.0 as usize))
 }

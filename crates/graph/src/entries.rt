@@ -1,29 +1,17 @@
-// Tables of sets: a copy, and entries changed or looked through for each member of a set of roles.
+// Tables of role sets: a copy, and entries changed or looked through for each member of a set of roles.
 ghost use mathlib.Core.Path.{_≡_};
 ghost use mathlib.Core.Bool.{_&&_};
 ghost use lib.ListN.{length};
 ghost use Rattle.sets.specs.Sets.{member, union, difference, when, collect};
 ghost use Rattle.graph.specs.Tables as spec;
 ghost use Rattle.graph.specs.Graph.{role-count};
-use crate::table::entry;
 
 // The table itself, with its length.
 pub(crate) fn copied(table: &[u64; 64]) -> [u64; 64]
-    ensures { λ v. ⌜ (v ≡ now (table .entry)) × (length v ≡ 64) ⌝ }
+    ensures { λ v. ⌜ (v ≡ now (table .entry)) × (length v ≡ role-count) ⌝ }
 {
     let _whole = &table[..];
     *table
-}
-
-// The entries of all roles; beyond the end of the table the empty set.
-pub(crate) fn whole(table: &[u64]) -> [u64; 64]
-    ensures { λ v. ⌜ v ≡ spec.table role-count (spec.at (now (table .entry))) ⌝ }
-{
-    let mut all = [0u64; 64];
-    for i in 0..64usize {
-        all[i] = entry(table, i);
-    }
-    all
 }
 
 // In the entry of each member of into, takes the members of out away and joins those of put.

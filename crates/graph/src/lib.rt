@@ -1,10 +1,8 @@
 // The role graph with its conflicts: drawing, closing, the edits of kinds 1 to 9 and their refusals.
-mod changing;
 pub mod checking;
 mod close;
 pub mod declaring;
 pub mod drawing;
-pub mod editing;
 mod entries;
 pub mod privileges;
 pub mod refusing;
@@ -21,17 +19,10 @@ pub struct PrivilegeSet {
     pub word: u64,
 }
 
-// The ordinary roles present, each role's effective set, and under each privilege the higher ones in conflict with it.
-pub struct Graph {
-    pub roles: u64,
-    pub sets: [u64; 64],
-    pub conflicts: [u64; 64],
-}
-
-// One entry of a table of sets; the number 64 stands for none.
-pub struct Entry {
-    pub number: usize,
-    pub set: u64,
+// The conflicts of a privilege with higher ones.
+pub struct ConflictEntry {
+    pub lower: usize,
+    pub higher: PrivilegeSet,
 }
 
 // A refusal's number and place, as document 01 lists them.
@@ -46,18 +37,12 @@ pub enum Verdict {
     Refused(Refusal),
 }
 
-// What a call comes to: its verdict, and the graph after it.
-pub struct Outcome {
-    pub verdict: Verdict,
-    pub graph: Graph,
-}
-
 // A change of the graph, kinds 1 to 7, with the fields that the kind names.
 pub enum Change {
     // role, direct set, juniors, seniors
-    AddByPlace(Role, u64, u64, u64),
+    AddByPlace(Role, PrivilegeSet, u64, u64),
     // role, effective set
-    AddByPrivileges(Role, u64),
+    AddByPrivileges(Role, PrivilegeSet),
     // role, and 1 where its direct privileges go to its immediate seniors
     RemoveRole(Role, u8),
     Grant(Role, Privilege),
@@ -65,11 +50,4 @@ pub enum Change {
     // junior, senior
     AddEdge(Role, Role),
     RemoveEdge(Role, Role),
-}
-
-// What a change comes to before 26 to 30 are judged: its verdict, and where it passed the roles and sets after it.
-pub struct Attempt {
-    pub verdict: Verdict,
-    pub roles: u64,
-    pub sets: [u64; 64],
 }

@@ -30,15 +30,6 @@ pub fn union(s: PrivilegeSet, t: PrivilegeSet) -> PrivilegeSet
     }
 }
 
-// The members of s that are members of t.
-pub fn intersection(s: PrivilegeSet, t: PrivilegeSet) -> PrivilegeSet
-    ensures { λ r. ⌜ read-set r ≡ spec.intersection (read-set s) (read-set t) ⌝ }
-{
-    PrivilegeSet {
-        word: sets::intersection(s.word, t.word),
-    }
-}
-
 // The members of s that are no members of t.
 pub fn difference(s: PrivilegeSet, t: PrivilegeSet) -> PrivilegeSet
     ensures { λ r. ⌜ read-set r ≡ spec.difference (read-set s) (read-set t) ⌝ }
@@ -46,6 +37,13 @@ pub fn difference(s: PrivilegeSet, t: PrivilegeSet) -> PrivilegeSet
     PrivilegeSet {
         word: sets::difference(s.word, t.word),
     }
+}
+
+// Whether s and t have a member in common.
+pub fn meets(s: PrivilegeSet, t: PrivilegeSet) -> bool
+    ensures { λ r. ⌜ r ≡ spec.meets (read-set s) (read-set t) ⌝ }
+{
+    sets::meets(s.word, t.word)
 }
 
 // Whether the two sets are the same.

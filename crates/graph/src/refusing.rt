@@ -10,35 +10,37 @@ ghost use Rattle.graph.specs.Graph.{role-count, is-end, present};
 ghost use Rattle.graph.specs.Conflicts.{holds-both, holds-pair};
 ghost use Rattle.graph.specs.Drawing.{below};
 ghost use Rattle.graph.specs.Refusing.{at-or-below, empty-role, twin-role, pair-role, offered-role, refused, verdict, still-below, closed-checks};
-ghost use Rattle.graph.specs.Reading.{drawn-from, graph-of, read-verdict, read-change};
+ghost use Rattle.graph.specs.Reading.{read-set, sets-in, drawn-from, graph-of, read-verdict, read-change};
 use super::drawing::ordinary_roles;
 use super::drawing::senior_roles;
 use crate::Change;
 use crate::Privilege;
+use crate::PrivilegeSet;
 use crate::Refusal;
 use crate::Role;
 use crate::Verdict;
+use crate::privileges;
 use crate::table::entry;
 
 // MinRole and MaxRole, as a set.
 const ENDS: u64 = 3;
 
 // The lowest role of a set; 64 for the empty set.
-fn first(s: u64) -> u8
+fn lowest_role(s: u64) -> u8
     ensures { λ r. ⌜ r ≡ lowest-member role-count s ⌝ }
 {
     sets::lowest_member(s) as u8
 }
 
 // The lowest ordinary role whose set is empty.
-pub fn empty_role(roles: u64, sets: &[u64; 64]) -> u8
+pub fn empty_role(roles: u64, sets: &[u64]) -> u8
     ensures { λ r. ⌜ r ≡ lowest role-count (empty-role (drawn-from roles (now (sets .entry)))) ⌝ }
 {
     let mut rest = sets::difference(roles, ENDS);
     while rest != 0 {
-        let r = first(rest);
+        let r = lowest_role(rest);
         let i = r as usize;
-        if sets[i] == 0 {
+        if privileges::is_empty(entry(sets, i)) {
             return r;
         }
         rest = sets::without_lowest(rest);
@@ -47,14 +49,14 @@ pub fn empty_role(roles: u64, sets: &[u64; 64]) -> u8
 }
 
 // Whether some role among these has the set s.
-fn has_set(among: u64, sets: &[u64; 64], s: u64) -> bool
-    ensures { λ r. ⌜ r ≡ any role-count (λ n. member n among && eqb (at (now (sets .entry)) n) s) ⌝ }
+fn has_set(among: u64, sets: &[u64], s: PrivilegeSet) -> bool
+    ensures { λ r. ⌜ r ≡ any role-count (λ n. member n among && eqb (at (sets-in (now (sets .entry))) n) (read-set s)) ⌝ }
 {
     let mut rest = among;
     while rest != 0 {
-        let r = first(rest);
+        let r = lowest_role(rest);
         let i = r as usize;
-        if sets[i] == s {
+        if privileges::equal(entry(sets, i), s) {
             return true;
         }
         rest = sets::without_lowest(rest);
@@ -63,15 +65,15 @@ fn has_set(among: u64, sets: &[u64; 64], s: u64) -> bool
 }
 
 // The lowest ordinary role that has a twin: its twin then is a higher role.
-pub fn twin_role(roles: u64, sets: &[u64; 64]) -> u8
+pub fn twin_role(roles: u64, sets: &[u64]) -> u8
     ensures { λ r. ⌜ r ≡ lowest role-count (twin-role (drawn-from roles (now (sets .entry)))) ⌝ }
 {
     let mut rest = sets::difference(roles, ENDS);
     while rest != 0 {
-        let r = first(rest);
+        let r = lowest_role(rest);
         let i = r as usize;
         rest = sets::without_lowest(rest);
-        if has_set(rest, sets, sets[i]) {
+        if has_set(rest, sets, entry(sets, i)) {
             return r;
         }
     }
@@ -79,15 +81,14 @@ pub fn twin_role(roles: u64, sets: &[u64; 64]) -> u8
 }
 
 // Whether a set holds both privileges of some declared conflict: one of them is the lower.
-pub fn holds_pair(conflicts: &[u64], s: u64) -> bool
-    ensures { λ r. ⌜ r ≡ holds-pair (now (conflicts .entry)) s ⌝ }
+pub fn holds_pair(conflicts: &[u64], s: PrivilegeSet) -> bool
+    ensures { λ r. ⌜ r ≡ holds-pair (sets-in (now (conflicts .entry))) (read-set s) ⌝ }
 {
     let mut rest = s;
-    while rest != 0 {
-        let p = first(rest);
-        let i = p as usize;
-        rest = sets::without_lowest(rest);
-        if rest & entry(conflicts, i) != 0 {
+    while !privileges::is_empty(rest) {
+        let p = privileges::lowest_member(rest) as usize;
+        rest = privileges::without_lowest(rest);
+        if privileges::meets(rest, entry(conflicts, p)) {
             return true;
         }
     }
@@ -95,20 +96,19 @@ pub fn holds_pair(conflicts: &[u64], s: u64) -> bool
 }
 
 // The lowest ordinary role that holds both privileges of some declared conflict.
-pub fn pair_role<'a>(roles: u64, sets: &'a [u64; 64], conflicts: &'a [u64]) -> u8
+pub fn pair_role<'a>(roles: u64, sets: &'a [u64], conflicts: &'a [u64]) -> u8
     ensures { λ r. ⌜ r ≡ lowest role-count (pair-role (graph-of roles (now (sets .entry)) (now (conflicts .entry)))) ⌝ }
 {
     let mut place: u8 = 64;
     let mut rest = sets::difference(roles, ENDS);
     'roles: while rest != 0 {
-        let r = first(rest);
+        let r = lowest_role(rest);
         let i = r as usize;
         let mut left = entry(sets, i);
-        while left != 0 {
-            let p = first(left);
-            let j = p as usize;
-            left = sets::without_lowest(left);
-            if left & entry(conflicts, j) != 0 {
+        while !privileges::is_empty(left) {
+            let p = privileges::lowest_member(left) as usize;
+            left = privileges::without_lowest(left);
+            if privileges::meets(left, entry(conflicts, p)) {
                 place = r;
                 break 'roles;
             }
@@ -119,12 +119,10 @@ pub fn pair_role<'a>(roles: u64, sets: &'a [u64; 64], conflicts: &'a [u64]) -> u
 }
 
 // Whether a set holds both a and b.
-pub fn holds_both(a: Privilege, b: Privilege, s: u64) -> bool
-    ensures { λ r. ⌜ r ≡ holds-both (a .0) (b .0) s ⌝ }
+pub fn holds_both(a: Privilege, b: Privilege, s: PrivilegeSet) -> bool
+    ensures { λ r. ⌜ r ≡ holds-both (a .0) (b .0) (read-set s) ⌝ }
 {
-    let i = a.0 as usize;
-    let j = b.0 as usize;
-    sets::member(i, s) && sets::member(j, s)
+    privileges::member(a, s) && privileges::member(b, s)
 }
 
 // The lowest ordinary role that holds both privileges of the pair offered.
@@ -133,7 +131,7 @@ pub fn offered_role(roles: u64, sets: &[u64], a: Privilege, b: Privilege) -> u8
 {
     let mut rest = sets::difference(roles, ENDS);
     while rest != 0 {
-        let r = first(rest);
+        let r = lowest_role(rest);
         let i = r as usize;
         if holds_both(a, b, entry(sets, i)) {
             return r;
@@ -147,14 +145,14 @@ pub fn offered_role(roles: u64, sets: &[u64], a: Privilege, b: Privilege) -> u8
 pub fn end_in(s: u64) -> u8
     ensures { λ r. ⌜ r ≡ lowest role-count (λ n. is-end n && member n s) ⌝ }
 {
-    first(sets::intersection(ENDS, s))
+    lowest_role(sets::intersection(ENDS, s))
 }
 
 // The lowest role of a set that is absent.
 pub fn absent_in(roles: u64, s: u64) -> u8
     ensures { λ r. ⌜ r ≡ lowest role-count (λ n. member n s && not (present (drawn-from roles []) n)) ⌝ }
 {
-    first(sets::difference(s, sets::union(ENDS, roles)))
+    lowest_role(sets::difference(s, sets::union(ENDS, roles)))
 }
 
 // Whether some role of `all` lies below j: j can lie above others, and a role that can lie below others has a set that j's strictly includes.
@@ -167,8 +165,8 @@ fn some_below(roles: u64, sets: &[u64], all: u64, j: usize) -> bool
     let top = entry(sets, j);
     let mut rest = sets::intersection(all, sets::union(ordinary_roles(roles), 1));
     while rest != 0 {
-        let s = first(rest) as usize;
-        if j == 1 || s == 0 || sets::strictly_included(entry(sets, s), top) {
+        let s = lowest_role(rest) as usize;
+        if j == 1 || s == 0 || privileges::strictly_included(entry(sets, s), top) {
             return true;
         }
         rest = sets::without_lowest(rest);
@@ -189,7 +187,7 @@ pub fn circle_in(roles: u64, sets: &[u64], juniors: u64, seniors: u64) -> u8
 {
     let mut rest = juniors;
     while rest != 0 {
-        let j = first(rest);
+        let j = lowest_role(rest);
         let i = j as usize;
         if circle_at(roles, sets, seniors, i) {
             return j;
@@ -207,7 +205,7 @@ pub fn refuse(number: u8, place: u8) -> Verdict
 }
 
 // Refusals 27 to 29 of a graph after closing.
-fn judge_sets<'a>(roles: u64, sets: &'a [u64; 64], conflicts: &'a [u64]) -> Verdict
+fn judge_sets<'a>(roles: u64, sets: &'a [u64], conflicts: &'a [u64]) -> Verdict
     ensures { λ r. ⌜ read-verdict r ≡ verdict (closed-checks (graph-of roles (now (sets .entry)) (now (conflicts .entry)))) ⌝ }
 {
     let empty = empty_role(roles, sets);
@@ -226,18 +224,18 @@ fn judge_sets<'a>(roles: u64, sets: &'a [u64; 64], conflicts: &'a [u64]) -> Verd
 }
 
 // Whether a's set is included in b's.
-fn still_below(sets: &[u64; 64], a: Role, b: Role) -> bool
-    ensures { λ r. ⌜ r ≡ included (at (now (sets .entry)) (a .0)) (at (now (sets .entry)) (b .0)) ⌝ }
+fn still_below(sets: &[u64], a: Role, b: Role) -> bool
+    ensures { λ r. ⌜ r ≡ included (at (sets-in (now (sets .entry))) (a .0)) (at (sets-in (now (sets .entry))) (b .0)) ⌝ }
 {
     let i = a.0 as usize;
     let j = b.0 as usize;
-    sets::included(entry(sets, i), entry(sets, j))
+    privileges::included(entry(sets, i), entry(sets, j))
 }
 
 // Refusals 26 to 29: those of a graph after a change and closing.
 pub fn judge_closed<'a>(
     roles: u64,
-    sets: &'a [u64; 64],
+    sets: &'a [u64],
     conflicts: &'a [u64],
     change: Change,
 ) -> Verdict

@@ -1,37 +1,72 @@
-// A table of sets by number: one entry read, many joined, and one stored.
+// Tables by number. A table of privilege sets is reached by these functions alone, whatever words it takes; a table of role sets has a word an entry.
 ghost use mathlib.Core.Path.{_≡_};
+ghost use lib.ListN.{length, set};
 ghost use Rattle.sets.specs.Sets.{member, gather};
 ghost use Rattle.graph.specs.Graph.{role-count};
-ghost use Rattle.graph.specs.Tables.{at, stored};
-use crate::Entry;
+ghost use Rattle.graph.specs.Tables as spec;
+ghost use Rattle.graph.specs.Reading.{read-set, sets-in};
+use crate::PrivilegeSet;
+use crate::privileges;
 
-// Entry n of a table; beyond its end the empty set.
-pub fn entry(table: &[u64], n: usize) -> u64
-    ensures { λ v. ⌜ v ≡ at (now (table .entry)) n ⌝ }
+// The words of a table with a set of privileges for each role.
+pub type SetTable = [u64; 64];
+
+// Entry n of a table of privilege sets; beyond its end the empty set.
+pub fn entry(table: &[u64], n: usize) -> PrivilegeSet
+    ensures { λ v. ⌜ read-set v ≡ spec.at (sets-in (now (table .entry))) n ⌝ }
 {
-    if n < table.len() { table[n] } else { 0 }
+    if n < table.len() {
+        PrivilegeSet { word: table[n] }
+    } else {
+        privileges::empty()
+    }
 }
 
-// The union of a table's entries at the members of `all`.
-pub fn gathered(table: &[u64], all: u64) -> u64
-    ensures { λ v. ⌜ v ≡ gather role-count (λ r. member r all) (at (now (table .entry))) ⌝ }
+// Stores entry n of a table of privilege sets; beyond its end nothing.
+pub fn store(table: &mut [u64], n: usize, s: PrivilegeSet)
+    ensures { λ _. ⌜ sets-in (now (table .exit)) ≡ set (sets-in (now (table .entry))) n (read-set s) ⌝ }
 {
-    let mut found: u64 = 0;
+    if n < table.len() {
+        table[n] = s.word;
+    }
+}
+
+// The union of the privilege sets of the roles in `all`.
+pub fn union_at(table: &[u64], all: u64) -> PrivilegeSet
+    ensures { λ v. ⌜ read-set v ≡ gather role-count (λ r. member r all) (spec.at (sets-in (now (table .entry)))) ⌝ }
+{
+    let mut found = privileges::empty();
     let mut rest = all;
     while rest != 0 {
         let r = sets::lowest_member(rest) as usize;
-        found = sets::union(found, entry(table, r));
+        found = privileges::union(found, entry(table, r));
         rest = sets::without_lowest(rest);
     }
     found
 }
 
-// Stores an entry, if there is one.
-pub fn store(table: &mut [u64; 64], entry: Entry)
-    ensures { λ _. ⌜ now (table .exit) ≡ stored (now (table .entry)) (entry .number) (entry .set) ⌝ }
+// The table of privilege sets itself, with its length.
+pub(crate) fn copied(table: &SetTable) -> SetTable
+    ensures { λ v. ⌜ (v ≡ now (table .entry)) × (length (sets-in v) ≡ role-count) ⌝ }
 {
-    let n = entry.number;
-    if n < 64 {
-        table[n] = entry.set;
+    let _whole = &table[..];
+    *table
+}
+
+// The privilege sets of all roles; beyond the end of the table the empty set.
+pub(crate) fn whole(table: &[u64]) -> SetTable
+    ensures { λ v. ⌜ sets-in v ≡ spec.table role-count (spec.at (sets-in (now (table .entry)))) ⌝ }
+{
+    let mut all: SetTable = [0u64; 64];
+    for i in 0..64usize {
+        store(&mut all, i, entry(table, i));
     }
+    all
+}
+
+// Entry n of a table of role sets; beyond its end the empty set.
+pub fn roles_at(table: &[u64], n: usize) -> u64
+    ensures { λ v. ⌜ v ≡ spec.at (now (table .entry)) n ⌝ }
+{
+    if n < table.len() { table[n] } else { 0 }
 }

@@ -26,9 +26,6 @@ returns c = refused-first _ _ (c .before .before .judge-role-privilege .ensures)
 effective-of-requires : tie.Need-effective-of-requires
 effective-of-requires c κs = tt
 
-cast-member : tie.Need-cast-member
-cast-member c = search needs
-
 member-requires : tie.Need-member-requires
 member-requires c κs = tt
 
@@ -39,7 +36,7 @@ returns-2 : tie.Need-returns-2
 unfolding early input-checks state-checks present effective
 returns-2 c =
     let m = c .before .before in
-    let b = m .before .before in
+    let b = m .before in
     c .refuse .ensures
     ∙ then-stops _ _ _ (b .before .before .before .judge-role-privilege .ensures) (b .before .enum-told .given .1)
     (ap (member _) (sym (b .effective-of .ensures)) ∙ sym (m .member .ensures) ∙ c .before .if1 .taken)
@@ -48,7 +45,7 @@ returns-3 : tie.Need-returns-3
 unfolding early input-checks state-checks present effective read-verdict
 returns-3 c =
     let m = c .before in
-    let b = m .before .before in
+    let b = m .before in
     ends
     ∙ then-goes _ _ _ (b .before .before .before .judge-role-privilege .ensures) (b .before .enum-told .given .1)
     (ap (member _) (sym (b .effective-of .ensures)) ∙ sym (m .member .ensures) ∙ c .if1 .left)
@@ -62,7 +59,6 @@ judge-grant-spec =
     enum-told-2
     returns
     effective-of-requires
-    cast-member
     member-requires
     refuse-requires
     returns-2

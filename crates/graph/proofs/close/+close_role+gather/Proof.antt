@@ -1,11 +1,15 @@
 -- `graph::close::close_role` and `graph::close::gather`, which call each other, meet their contracts: a role's entry is done once its juniors are gathered.
 -- What falls is the height of the role, how many roles the longest way down from it has. Assumes nothing.
-use mathlib.Core.Path.{sym, _∙_, subst}
+use mathlib.Core.Path.{sym, ap, _∙_, subst}
+use mathlib.Core.List.{List}
 use Prim.Native.Nat.{ℕ, _+_, _*_, _<_}
 use native.Mathlib.Omega.{arith}
 use borrow.Author.Needs.{needs}
 use lib.Dec.{T}
+use Rattle.sets.specs.Sets.{member, union}
 use Rattle.graph.specs.Tables.{at}
+use Rattle.graph.specs.Working.{Memo}
+use Rattle.graph.specs.Reading.{read-set, sets-in}
 use Rattle.graph.specs.Graph.{role-count}
 use Rattle.graph.proofs.Acyclic.{height, height-falls}
 use Rattle.graph.proofs.Loops.{left-lowest, left-falls, left-alone, gathering-done}
@@ -20,6 +24,10 @@ use Rattle.graph.proofs.close.gather.Reads as gather
 use Rattle.graph.proofs.close.gather.Kinds as gather-kinds
 use Rattle.graph.proofs.close.+close_role+gather.Lts-gather as gather-lts
 use Rattle.graph.proofs.table.entry.Reads as entry-reads
+use Rattle.graph.proofs.table.store.Reads as store-reads
+use Rattle.graph.proofs.table.roles_at.Reads as roles-at-reads
+use Rattle.graph.proofs.privileges.empty.Reads as empty-reads
+use Rattle.graph.proofs.privileges.union.Reads as join-reads
 use Rattle.sets.proofs.lowest_member.Reads as lowest-member-reads
 use Rattle.sets.proofs.member.Reads as member-reads
 use Rattle.sets.proofs.lowest_alone.Reads as lowest-alone-reads
@@ -49,10 +57,10 @@ abbrev gather-below : ℕ → In 3 gather-kinds.ps
 gather-below t = and 3 gather-kinds.ps (falls 3 gather-kinds.ps _<_ μ-gather t) gather.Pre
 
 abbrev close-role-claims : ℕ → close-role-lts.Claims
-close-role-claims t = (member-reads.Asked, member-reads.Learnt, gather-below t, gather.Post, union-reads.Asked, union-reads.Learnt)
+close-role-claims t = (member-reads.Asked, member-reads.Learnt, gather-below t, gather.Post, entry-reads.Asked, entry-reads.Learnt, join-reads.Asked, join-reads.Learnt, store-reads.Asked, store-reads.Learnt, union-reads.Asked, union-reads.Learnt)
 
 abbrev gather-claims : ℕ → gather-lts.Claims
-gather-claims t = (entry-reads.Asked, entry-reads.Learnt, lowest-member-reads.Asked, lowest-member-reads.Learnt, lowest-alone-reads.Asked, lowest-alone-reads.Learnt, close-role-below t, close-role.Post, union-reads.Asked, union-reads.Learnt, without-lowest-reads.Asked, without-lowest-reads.Learnt)
+gather-claims t = (empty-reads.Asked, empty-reads.Learnt, roles-at-reads.Asked, roles-at-reads.Learnt, lowest-member-reads.Asked, lowest-member-reads.Learnt, lowest-alone-reads.Asked, lowest-alone-reads.Learnt, close-role-below t, close-role.Post, entry-reads.Asked, entry-reads.Learnt, join-reads.Asked, join-reads.Learnt, without-lowest-reads.Asked, without-lowest-reads.Learnt)
 
 close-role-member-requires : (t : ℕ) → close-role-lts.Need-member-requires (close-role-claims t) (close-role-at t) close-role.Post
 close-role-member-requires t c κs = tt
@@ -67,45 +75,46 @@ close-role-gather-requires t c κs =
     let p = c .before .before .before .pre .1 in
     (omega arith, (p .0, (p .1 .0, p .1 .1 .0)))
 
-close-role-mul-union : (t : ℕ) → close-role-lts.Need-mul-union (close-role-claims t) (close-role-at t) close-role.Post
-close-role-mul-union t c = search needs
-
-close-role-element-copy-out-union : (t : ℕ) → close-role-lts.Need-element-copy-out-union (close-role-claims t) (close-role-at t) close-role.Post
-close-role-element-copy-out-union t c = search needs
+close-role-entry-requires : (t : ℕ) → close-role-lts.Need-entry-requires (close-role-claims t) (close-role-at t) close-role.Post
+close-role-entry-requires t c κs = tt
 
 close-role-union-requires : (t : ℕ) → close-role-lts.Need-union-requires (close-role-claims t) (close-role-at t) close-role.Post
 close-role-union-requires t c κs = tt
 
-close-role-mul-sets : (t : ℕ) → close-role-lts.Need-mul-sets (close-role-claims t) (close-role-at t) close-role.Post
-close-role-mul-sets t c = search needs
-
-close-role-element-write-sets : (t : ℕ) → close-role-lts.Need-element-write-sets (close-role-claims t) (close-role-at t) close-role.Post
-close-role-element-write-sets t c = search needs
+close-role-store-requires : (t : ℕ) → close-role-lts.Need-store-requires (close-role-claims t) (close-role-at t) close-role.Post
+close-role-store-requires t c κs = tt
 
 close-role-union-requires-2 : (t : ℕ) → close-role-lts.Need-union-requires-2 (close-role-claims t) (close-role-at t) close-role.Post
 close-role-union-requires-2 t c κs = tt
 
 close-role-returns-2 : (t : ℕ) → close-role-lts.Need-returns-2 (close-role-claims t) (close-role-at t) close-role.Post
-unfolding at
 close-role-returns-2 t c =
-    let p = c .before .before .before .before .before .before .before in
-    let g = c .before .before .before .gather in
-    role-closed (p .args .done) (p .pre .1 .1 .0) (p .pre .1 .0) (g .ensures .0) (g .ensures .1 .0) (g .ensures .1 .1) (c .before .union .ensures) (p .pre .1 .1 .1 .1) (c .union2 .ensures)
+    let p = c .before .before .before .before .before .before .before .before .before .before .before in
+    let g = c .before .before .before .before .before .before .before .gather in
+    let kept = c .before .store .ensures in
+    let w =
+    role-closed (p .args .done) (p .pre .1 .1 .0) (p .pre .1 .0) (g .ensures .0) (g .ensures .1 .0) (g .ensures .1 .1)
+    (c .before .before .union .ensures ∙ ap (λ (d : ℕ). union d (read-set (g .result .set))) (c .before .before .before .entry .ensures)) (p .pre .1 .1 .1 .1) (c .union2 .ensures) in
+    (subst (Memo (sets-in (p .args .directs .now)) (p .args .juniors .now) (c .union2 .result)) (sym kept) (w .0), w .1)
 
 abbrev gather-Inv-loop : gather-lts.InvT-loop
-gather-Inv-loop directs juniors sets₀ before r done₀ set₀ rest₀ sets done set rest = Joined directs juniors before (at juniors r) sets done set rest
+gather-Inv-loop directs juniors sets₀ before r done₀ set₀ rest₀ sets done set rest = Joined (sets-in directs) juniors before (at juniors r) (sets-in sets) done (read-set set) rest
 
 abbrev gather-μ-loop : gather-lts.MeasureT-loop
 gather-μ-loop directs juniors sets₀ before r done₀ set₀ rest₀ sets done set rest = rest
 
-gather-entry-requires : (t : ℕ) → gather-lts.Need-entry-requires (gather-claims t) (gather-at t) gather.Post gather-Inv-loop gather-μ-loop
-gather-entry-requires t c κs = tt
+gather-empty-requires : (t : ℕ) → gather-lts.Need-empty-requires (gather-claims t) (gather-at t) gather.Post gather-Inv-loop gather-μ-loop
+gather-empty-requires t c κs = tt
+
+gather-roles-at-requires : (t : ℕ) → gather-lts.Need-roles-at-requires (gather-claims t) (gather-at t) gather.Post gather-Inv-loop gather-μ-loop
+gather-roles-at-requires t c κs = tt
 
 gather-loop-holds : (t : ℕ) → gather-lts.Need-loop-holds (gather-claims t) (gather-at t) gather.Post gather-Inv-loop gather-μ-loop
 gather-loop-holds t c =
-    let p = c .before .before in
-    subst (λ (i : ℕ). Joined (p .args .directs .now) (p .args .juniors .now) (p .args .before) i (p .args .sets .now) (p .args .before) 0 (c .entry .result)) (c .entry .ensures)
-    (joined-none (c .entry .ok) (p .pre .1 .1 .1))
+    let p = c .before .before .before in
+    let w = joined-none (c .roles-at .ok) (p .pre .1 .1 .1) in
+    subst (λ (i : ℕ). Joined (sets-in (p .args .directs .now)) (p .args .juniors .now) (p .args .before) i (sets-in (p .args .sets .now)) (p .args .before) (read-set (c .before .before .empty .result)) (c .roles-at .result)) (c .roles-at .ensures)
+    (subst (λ (i : ℕ). Joined (sets-in (p .args .directs .now)) (p .args .juniors .now) (p .args .before) (c .roles-at .result) (sets-in (p .args .sets .now)) (p .args .before) i (c .roles-at .result)) (sym (c .before .before .empty .ensures)) w)
 
 gather-lowest-member-requires : (t : ℕ) → gather-lts.Need-lowest-member-requires (gather-claims t) (gather-at t) gather.Post gather-Inv-loop gather-μ-loop
 gather-lowest-member-requires t c κs = tt
@@ -121,7 +130,7 @@ gather-below-count t c = left-lowest (c .before .before .loop .inv .sum .left) (
 
 gather-close-role-requires : (t : ℕ) → gather-lts.Need-close-role-requires (gather-claims t) (gather-at t) gather.Post gather-Inv-loop gather-μ-loop
 gather-close-role-requires t c κs =
-    let p = c .before .before .before .before .before .before .before in
+    let p = c .before .before .before .before .before .before .before .before in
     let w = c .before .before .before .before .loop .inv in
     let m = c .before .before .lowest-member in
     let some = c .before .before .before .loop-test .taken in
@@ -130,11 +139,8 @@ gather-close-role-requires t c κs =
     let h = height-falls (p .args .juniors .now) (p .pre .1 .1 .0) (m .result) (p .args .r) below (p .pre .1 .0) junior in
     (omega arith, (below, (p .pre .1 .1 .0, (w .memo, left-alone (w .sum .left) some (c .lowest-alone .ensures) (m .ensures)))))
 
-gather-mul-union : (t : ℕ) → gather-lts.Need-mul-union (gather-claims t) (gather-at t) gather.Post gather-Inv-loop gather-μ-loop
-gather-mul-union t c = search needs
-
-gather-element-copy-out-union : (t : ℕ) → gather-lts.Need-element-copy-out-union (gather-claims t) (gather-at t) gather.Post gather-Inv-loop gather-μ-loop
-gather-element-copy-out-union t c = gather-below-count t (c .before .before .before)
+gather-entry-requires : (t : ℕ) → gather-lts.Need-entry-requires (gather-claims t) (gather-at t) gather.Post gather-Inv-loop gather-μ-loop
+gather-entry-requires t c κs = tt
 
 gather-union-requires : (t : ℕ) → gather-lts.Need-union-requires (gather-claims t) (gather-at t) gather.Post gather-Inv-loop gather-μ-loop
 gather-union-requires t c κs = tt
@@ -143,14 +149,13 @@ gather-without-lowest-requires : (t : ℕ) → gather-lts.Need-without-lowest-re
 gather-without-lowest-requires t c κs = tt
 
 gather-loop-less : (t : ℕ) → gather-lts.Need-loop-less (gather-claims t) (gather-at t) gather.Post gather-Inv-loop gather-μ-loop
-gather-loop-less t c = left-falls (c .before .before .before .before .before .before .before .before .loop .inv .sum .left) (c .before .before .before .before .before .before .before .loop-test .taken) (c .without-lowest .ensures)
+gather-loop-less t c = left-falls (c .before .before .before .before .before .before .before .before .before .before .loop .inv .sum .left) (c .before .before .before .before .before .before .before .before .before .loop-test .taken) (c .without-lowest .ensures)
 
 gather-loop-again : (t : ℕ) → gather-lts.Need-loop-again (gather-claims t) (gather-at t) gather.Post gather-Inv-loop gather-μ-loop
-unfolding at
 gather-loop-again t c =
-    let k = c .before .before .before .close-role in
-    joined-next (c .before .before .before .before .before .before .before .before .loop .inv) (c .before .before .before .before .before .before .before .loop-test .taken) (c .before .before .before .before .before .before .lowest-member .ensures)
-    (k .ensures .0) (k .ensures .1 .0) (k .ensures .1 .1) (c .before .union .ensures) (c .without-lowest .ensures)
+    let k = c .before .before .before .before .before .close-role in
+    joined-next (c .before .before .before .before .before .before .before .before .before .before .loop .inv) (c .before .before .before .before .before .before .before .before .before .loop-test .taken) (c .before .before .before .before .before .before .before .before .lowest-member .ensures)
+    (k .ensures .0) (k .ensures .1 .0) (k .ensures .1 .1) (c .before .union .ensures ∙ ap (union _) (c .before .before .entry .ensures)) (c .without-lowest .ensures)
 
 gather-returns : (t : ℕ) → gather-lts.Need-returns (gather-claims t) (gather-at t) gather.Post gather-Inv-loop gather-μ-loop
 gather-returns t c =
@@ -164,11 +169,9 @@ pub +close-role+gather-spec : {M : Type 1} → statement M
     (close-role-member-requires t)
     (close-role-returns t)
     (close-role-gather-requires t)
-    (close-role-mul-union t)
-    (close-role-element-copy-out-union t)
+    (close-role-entry-requires t)
     (close-role-union-requires t)
-    (close-role-mul-sets t)
-    (close-role-element-write-sets t)
+    (close-role-store-requires t)
     (close-role-union-requires-2 t)
     (close-role-returns-2 t))
     λ t. gather-lts.spec (gather-claims t)
@@ -176,14 +179,14 @@ pub +close-role+gather-spec : {M : Type 1} → statement M
     gather.Post
     gather-Inv-loop
     gather-μ-loop
-    (gather-entry-requires t)
+    (gather-empty-requires t)
+    (gather-roles-at-requires t)
     (gather-loop-holds t)
     (gather-lowest-member-requires t)
     (gather-cast-t t)
     (gather-lowest-alone-requires t)
     (gather-close-role-requires t)
-    (gather-mul-union t)
-    (gather-element-copy-out-union t)
+    (gather-entry-requires t)
     (gather-union-requires t)
     (gather-without-lowest-requires t)
     (gather-loop-less t)

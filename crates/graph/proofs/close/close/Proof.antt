@@ -1,6 +1,8 @@
 -- `graph::close::close` meets its contract: the roles that are not present are done from the start, and each turn does one that is.
 -- Assumes nothing.
 use borrow.Author.Needs.{needs}
+use mathlib.Core.Path.{ap}
+use Rattle.graph.specs.Reading.{sets-in}
 use Rattle.graph.specs.Working.{closed-set}
 use Rattle.graph.proofs.Loops.{left-lowest, left-falls, left-alone}
 use Rattle.graph.proofs.Memo.{Doing, doing-none, doing-next, doing-done}
@@ -8,7 +10,7 @@ use Rattle.graph.proofs.close.close.Statement.{statement}
 use Rattle.graph.proofs.close.close.Tie as tie
 
 abbrev Inv-loop : tie.InvT-loop
-Inv-loop present directs juniors sets₀ done₀ rest₀ sets done rest = Doing directs juniors present sets done rest
+Inv-loop present directs juniors sets₀ done₀ rest₀ sets done rest = Doing (sets-in directs) juniors present (sets-in sets) done rest
 
 abbrev μ-loop : tie.MeasureT-loop
 μ-loop present directs juniors sets₀ done₀ rest₀ sets done rest = rest
@@ -22,7 +24,7 @@ difference-requires c κs = tt
 loop-holds : tie.Need-loop-holds Inv-loop μ-loop
 loop-holds c =
     let p = c .before .before in
-    doing-none (p .pre) (p .fits .present .fits) (c .before .copied .ensures .1) (c .before .copied .ensures .0) (c .difference .ensures)
+    doing-none (p .pre) (p .fits .present .fits) (c .before .copied .ensures .1) (ap sets-in (c .before .copied .ensures .0)) (c .difference .ensures)
 
 lowest-member-requires : tie.Need-lowest-member-requires Inv-loop μ-loop
 lowest-member-requires c κs = tt

@@ -1,20 +1,21 @@
 -- `graph::drawing::direct_sets` meets its contract: the entries of the roles visited so far are filled in, and the others are as they were.
 -- Assumes nothing.
 use borrow.Author.Needs.{needs}
-use mathlib.Core.Path.{_∙_, refl, ap}
+use mathlib.Core.Path.{_∙_, refl, sym, ap, subst}
 use lib.ListN.{length}
 use Rattle.sets.specs.Sets.{member, difference, gather}
 use Rattle.graph.specs.Graph.{role-count}
 use Rattle.graph.specs.Tables.{at}
-use Rattle.graph.specs.Drawing.{direct-table}
+use Rattle.graph.specs.Reading.{sets-in}
+use Rattle.graph.specs.Working.{less-juniors}
 use Rattle.graph.proofs.Tables.{length-table, at-table}
 use Rattle.graph.proofs.Drawings.{table-cong}
-use Rattle.graph.proofs.Loops.{left-lowest, left-falls, Filling, filling-none, filling-next, filling-done}
+use Rattle.graph.proofs.Loops.{left-falls, Filling, filling-none, filling-next, filling-done}
 use Rattle.graph.proofs.drawing.direct_sets.Statement.{statement}
 use Rattle.graph.proofs.drawing.direct_sets.Tie as tie
 
 abbrev Inv-loop : tie.InvT-loop
-Inv-loop all sets juniors direct₀ rest₀ direct rest = Filling (λ s. difference (at sets s) (gather role-count (λ r. member r (at juniors s)) (at sets))) (at direct₀) all rest direct
+Inv-loop all sets juniors direct₀ rest₀ direct rest = Filling (λ s. difference (at (sets-in sets) s) (gather role-count (λ r. member r (at juniors s)) (at (sets-in sets)))) (at (sets-in direct₀)) all rest (sets-in direct)
 
 abbrev μ-loop : tie.MeasureT-loop
 μ-loop all sets juniors direct₀ rest₀ direct rest = rest
@@ -31,14 +32,15 @@ lowest-member-requires c κs = tt
 cast-s : tie.Need-cast-s Inv-loop μ-loop
 cast-s c = search needs
 
-mul-gathered : tie.Need-mul-gathered Inv-loop μ-loop
-mul-gathered c = search needs
+roles-at-requires : tie.Need-roles-at-requires Inv-loop μ-loop
+roles-at-requires c κs = tt
 
-element-copy-out-gathered : tie.Need-element-copy-out-gathered Inv-loop μ-loop
-element-copy-out-gathered c = left-lowest (c .before .before .loop .inv .left) (c .before .loop-test .taken) (c .lowest-member .ensures)
+union-at-requires : tie.Need-union-at-requires Inv-loop μ-loop
+union-at-requires c κs = tt
 
-gathered-requires : tie.Need-gathered-requires Inv-loop μ-loop
-gathered-requires c κs = tt
+slice-aggregate-store : tie.Need-slice-aggregate-store Inv-loop μ-loop
+unfolding sets-in
+slice-aggregate-store c = let w = c .before .before .before .before .before .before .loop .inv .whole in search needs
 
 entry-requires : tie.Need-entry-requires Inv-loop μ-loop
 entry-requires c κs = tt
@@ -46,29 +48,27 @@ entry-requires c κs = tt
 difference-requires : tie.Need-difference-requires Inv-loop μ-loop
 difference-requires c κs = tt
 
-mul-direct : tie.Need-mul-direct Inv-loop μ-loop
-mul-direct c = search needs
-
-array-write-direct : tie.Need-array-write-direct Inv-loop μ-loop
-array-write-direct c = left-lowest (c .before .before .before .before .before .before .loop .inv .left) (c .before .before .before .before .before .loop-test .taken) (c .before .before .before .before .lowest-member .ensures)
+store-requires : tie.Need-store-requires Inv-loop μ-loop
+store-requires c κs = tt
 
 without-lowest-requires : tie.Need-without-lowest-requires Inv-loop μ-loop
 without-lowest-requires c κs = tt
 
 loop-less : tie.Need-loop-less Inv-loop μ-loop
 loop-less c =
-    let b = c .before .before .before .before .before .before in
+    let b = c .before .before .before .before .before .before .before .before .before .before in
     left-falls (b .before .loop .inv .left) (b .loop-test .taken) (c .without-lowest .ensures)
 
 loop-again : tie.Need-loop-again Inv-loop μ-loop
-unfolding at
 loop-again c =
-    let b = c .before .before .before .before .before in
-    filling-next (b .before .before .loop .inv) (b .before .loop-test .taken) (b .lowest-member .ensures) (c .without-lowest .ensures)
-    (c .before .difference .ensures ∙ rw (c .before .before .entry .ensures, c .before .before .before .gathered .ensures))
+    let u = c .before .before .before .before .before .before in
+    let b = u .before .before .before in
+    subst (Filling _ _ _ _) (sym (c .before .before .store .ensures))
+    (filling-next (b .before .before .loop .inv) (b .before .loop-test .taken) (b .lowest-member .ensures) (c .without-lowest .ensures)
+    (c .before .before .before .difference .ensures ∙ rw (c .before .before .before .before .entry .ensures, u .union-at .ensures, u .before .roles-at .ensures)))
 
 returns : tie.Need-returns Inv-loop μ-loop
-unfolding direct-table
+unfolding less-juniors
 returns c =
     filling-done (c .before .loop .inv) (c .loop-test .left)
     ∙ table-cong role-count _ _ (λ i l. rw (c .before .before .whole .ensures, at-table role-count i _ l))
@@ -83,13 +83,12 @@ direct-sets-spec =
     loop-holds
     lowest-member-requires
     cast-s
-    mul-gathered
-    element-copy-out-gathered
-    gathered-requires
+    roles-at-requires
+    union-at-requires
+    slice-aggregate-store
     entry-requires
     difference-requires
-    mul-direct
-    array-write-direct
+    store-requires
     without-lowest-requires
     loop-less
     loop-again

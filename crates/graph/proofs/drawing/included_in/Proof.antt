@@ -4,12 +4,13 @@ use borrow.Author.Needs.{needs}
 use mathlib.Core.Path.{_∙_}
 use Rattle.sets.specs.Sets.{strictly-included}
 use Rattle.graph.specs.Tables.{at}
+use Rattle.graph.specs.Reading.{read-set, sets-in}
 use Rattle.graph.proofs.Loops.{left-falls, Collecting, collecting-none, collecting-next, collecting-done}
 use Rattle.graph.proofs.drawing.included_in.Statement.{statement}
 use Rattle.graph.proofs.drawing.included_in.Tie as tie
 
 abbrev Inv-loop : tie.InvT-loop
-Inv-loop all sets top found₀ rest₀ found rest = Collecting (λ r. strictly-included (at sets r) top) all rest found
+Inv-loop all sets top found₀ rest₀ found rest = Collecting (λ r. strictly-included (at (sets-in sets) r) (read-set top)) all rest found
 
 abbrev μ-loop : tie.MeasureT-loop
 μ-loop all sets top found₀ rest₀ found rest = rest

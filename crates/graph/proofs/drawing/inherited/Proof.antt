@@ -16,8 +16,8 @@ lower-requires c κs = tt
 difference-requires : tie.Need-difference-requires
 difference-requires c κs = tt
 
-gathered-requires : tie.Need-gathered-requires
-gathered-requires c κs = tt
+union-at-requires : tie.Need-union-at-requires
+union-at-requires c κs = tt
 
 returns : tie.Need-returns
 returns c =
@@ -26,11 +26,11 @@ returns c =
     let g = drawn-from (a .roles) (a .sets .now) in
     let l = b .before .lower .ensures in
     let o : b .difference .result ≡ difference (roles-below g (a .s)) 1 = b .difference .ensures ∙ rw l in
-    c .gathered .ensures
+    c .union-at .ensures
     ∙ (elim (c .before .if1 .came) [
       | inl (t, e) ↦ rw (e, l) (inherited-least g (search needs) (a .s) (sym o ∙ t .taken))
       | inr (f, e) ↦ rw (e, o) (inherited-ordinary g (search needs) (a .s) (λ z. f .left (o ∙ z)))
     ])
 
 pub inherited-spec : {M : Type 1} → statement M
-inherited-spec = tie.close (tie.spec lower-requires difference-requires gathered-requires returns)
+inherited-spec = tie.close (tie.spec lower-requires difference-requires union-at-requires returns)

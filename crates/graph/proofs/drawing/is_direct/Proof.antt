@@ -6,9 +6,6 @@ use Rattle.graph.proofs.Drawings.{direct-member}
 use Rattle.graph.proofs.drawing.is_direct.Statement.{statement}
 use Rattle.graph.proofs.drawing.is_direct.Tie as tie
 
-cast-p : tie.Need-cast-p
-cast-p c = search needs
-
 effective-of-requires : tie.Need-effective-of-requires
 effective-of-requires c κs = tt
 
@@ -36,7 +33,6 @@ pub is-direct-spec : {M : Type 1} → statement M
 is-direct-spec =
     tie.close
     (tie.spec
-    cast-p
     effective-of-requires
     member-requires
     returns

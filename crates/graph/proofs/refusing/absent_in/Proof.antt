@@ -20,8 +20,8 @@ union-requires c κs = tt
 difference-requires : tie.Need-difference-requires
 difference-requires c κs = tt
 
-first-requires : tie.Need-first-requires
-first-requires c κs = tt
+lowest-role-requires : tie.Need-lowest-role-requires
+lowest-role-requires c κs = tt
 
 lowest-absent : (roles s : ℕ) → lowest-member role-count (difference s (union 3 roles)) ≡ lowest role-count (λ n. member n s && not (present (drawn-from roles []) n))
 unfolding lowest-member present
@@ -33,9 +33,9 @@ lowest-absent roles s =
 
 returns : tie.Need-returns
 returns c =
-    c .first .ensures
+    c .lowest-role .ensures
     ∙ ap (lowest-member role-count) (c .before .difference .ensures ∙ ap (difference _) (c .before .before .union .ensures))
     ∙ lowest-absent (c .before .before .before .args .roles) (c .before .before .before .args .s)
 
 pub absent-in-spec : {M : Type 1} → statement M
-absent-in-spec = tie.close (tie.spec union-requires difference-requires first-requires returns)
+absent-in-spec = tie.close (tie.spec union-requires difference-requires lowest-role-requires returns)

@@ -26,11 +26,11 @@ abbrev μ-loop : tie.MeasureT-loop
 loop-holds : tie.Need-loop-holds Inv-loop μ-loop
 loop-holds c = starts role-count _ _ (search needs)
 
-first-requires : tie.Need-first-requires Inv-loop μ-loop
-first-requires c κs = tt
+lowest-role-requires : tie.Need-lowest-role-requires Inv-loop μ-loop
+lowest-role-requires c κs = tt
 
 cast-i : tie.Need-cast-i Inv-loop μ-loop
-cast-i c = let l = visit-lt (c .before .before .loop .inv) (c .before .loop-test .taken) (c .first .ensures) in search needs
+cast-i c = let l = visit-lt (c .before .before .loop .inv) (c .before .loop-test .taken) (c .lowest-role .ensures) in search needs
 
 circle-at-requires : tie.Need-circle-at-requires Inv-loop μ-loop
 circle-at-requires c κs = tt
@@ -38,7 +38,7 @@ circle-at-requires c κs = tt
 returns : tie.Need-returns Inv-loop μ-loop
 returns c =
     let b = c .before .before in
-    hit (b .before .before .loop .inv) (b .before .loop-test .taken) (b .first .ensures) (sym (c .before .circle-at .ensures) ∙ c .if1 .taken)
+    hit (b .before .before .loop .inv) (b .before .loop-test .taken) (b .lowest-role .ensures) (sym (c .before .circle-at .ensures) ∙ c .if1 .taken)
 
 without-lowest-requires : tie.Need-without-lowest-requires Inv-loop μ-loop
 without-lowest-requires c κs = tt
@@ -46,12 +46,12 @@ without-lowest-requires c κs = tt
 loop-less : tie.Need-loop-less Inv-loop μ-loop
 loop-less c =
     let b = c .before .before .before in
-    falls (b .before .before .loop .inv) (b .before .loop-test .taken) (b .first .ensures) (c .without-lowest .ensures)
+    falls (b .before .before .loop .inv) (b .before .loop-test .taken) (b .lowest-role .ensures) (c .without-lowest .ensures)
 
 loop-again : tie.Need-loop-again Inv-loop μ-loop
 loop-again c =
     let b = c .before .before .before in
-    goes-on (b .before .before .loop .inv) (b .before .loop-test .taken) (b .first .ensures) (c .without-lowest .ensures)
+    goes-on (b .before .before .loop .inv) (b .before .loop-test .taken) (b .lowest-role .ensures) (c .without-lowest .ensures)
     (sym (c .before .before .circle-at .ensures) ∙ c .before .if1 .left)
 
 returns-2 : tie.Need-returns-2 Inv-loop μ-loop
@@ -64,7 +64,7 @@ circle-in-spec =
     Inv-loop
     μ-loop
     loop-holds
-    first-requires
+    lowest-role-requires
     cast-i
     circle-at-requires
     returns

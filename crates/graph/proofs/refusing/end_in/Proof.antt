@@ -15,8 +15,8 @@ use Rattle.graph.proofs.refusing.end_in.Tie as tie
 intersection-requires : tie.Need-intersection-requires
 intersection-requires c κs = tt
 
-first-requires : tie.Need-first-requires
-first-requires c κs = tt
+lowest-role-requires : tie.Need-lowest-role-requires
+lowest-role-requires c κs = tt
 
 lowest-end : (s : ℕ) → lowest-member role-count (intersection 3 s) ≡ lowest role-count (λ n. is-end n && member n s)
 unfolding lowest-member
@@ -25,7 +25,7 @@ lowest-end s =
     (λ n _. member-intersection n 3 s ∙ ap (λ (b : Bool). b && member n s) (member-ends n))
 
 returns : tie.Need-returns
-returns c = c .first .ensures ∙ ap (lowest-member role-count) (c .before .intersection .ensures) ∙ lowest-end (c .before .before .args .s)
+returns c = c .lowest-role .ensures ∙ ap (lowest-member role-count) (c .before .intersection .ensures) ∙ lowest-end (c .before .before .args .s)
 
 pub end-in-spec : {M : Type 1} → statement M
-end-in-spec = tie.close (tie.spec intersection-requires first-requires returns)
+end-in-spec = tie.close (tie.spec intersection-requires lowest-role-requires returns)

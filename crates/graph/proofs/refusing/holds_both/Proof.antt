@@ -1,15 +1,8 @@
 -- `graph::refusing::holds_both` meets its contract: the two tests are those of the definition.
 -- Assumes nothing.
-use borrow.Author.Needs.{needs}
 use Rattle.graph.specs.Conflicts.{holds-both}
 use Rattle.graph.proofs.refusing.holds_both.Statement.{statement}
 use Rattle.graph.proofs.refusing.holds_both.Tie as tie
-
-cast-i : tie.Need-cast-i
-cast-i c = search needs
-
-cast-j : tie.Need-cast-j
-cast-j c = search needs
 
 member-requires : tie.Need-member-requires
 member-requires c κs = tt
@@ -27,4 +20,4 @@ returns-2 c = rw (← c .before .member .ensures, c .if1 .left)
 
 pub holds-both-spec : {M : Type 1} → statement M
 holds-both-spec =
-    tie.close (tie.spec cast-i cast-j member-requires member-requires-2 returns returns-2)
+    tie.close (tie.spec member-requires member-requires-2 returns returns-2)

@@ -1,34 +1,33 @@
 -- `graph::refusing::holds_pair` meets its contract: it searches the set for a privilege with a partner, which stands among those left.
 -- Assumes nothing.
 use borrow.Author.Needs.{needs}
-use mathlib.Core.Logic.{_≢_}
-use mathlib.Core.Path.{_≡_, subst}
-use Prim.Native.Nat.{ℕ, _<_}
-use Rattle.sets.specs.Sets.{intersection}
-use Rattle.graph.specs.Tables.{at}
-use Rattle.graph.specs.Graph.{role-count, privilege-count}
+use mathlib.Core.Path.{_≡_, sym, ap, _∙_}
+use Rattle.sets.specs.Sets.{meets}
+use Rattle.graph.specs.Graph.{privilege-count}
 use Rattle.graph.specs.Conflicts.{holds-pair}
-use Rattle.graph.proofs.Searching.{Search, starts, visit-lt, any-hit, goes-on, falls, any-miss, has-partner, partner-found, partner-none}
+use Rattle.graph.specs.Reading.{read-set, sets-in}
+use Rattle.graph.proofs.Emptiness.{some-left, none-left}
+use Rattle.graph.proofs.Searching.{Search, starts, any-hit, goes-on, falls, any-miss, has-partner, partner-test}
 use Rattle.graph.proofs.refusing.holds_pair.Statement.{statement}
 use Rattle.graph.proofs.refusing.holds_pair.Tie as tie
 
 abbrev Inv-loop : tie.InvT-loop
-Inv-loop conflicts s rest₀ rest = Search privilege-count (has-partner privilege-count conflicts s) s rest
+Inv-loop conflicts s rest = Search privilege-count (has-partner privilege-count (sets-in conflicts) (read-set s)) (read-set s) (read-set rest)
 
 abbrev μ-loop : tie.MeasureT-loop
-μ-loop conflicts s rest₀ rest = rest
+μ-loop conflicts s rest = read-set rest
 
 loop-holds : tie.Need-loop-holds Inv-loop μ-loop
-loop-holds c = starts privilege-count _ _ (search needs)
+loop-holds c = let s = c .before .args .s in starts privilege-count _ _ (search needs)
 
-first-requires : tie.Need-first-requires Inv-loop μ-loop
-first-requires c κs = tt
+is-empty-requires : tie.Need-is-empty-requires Inv-loop μ-loop
+is-empty-requires c κs = tt
 
-privilege-lt : (c : tie.After-first Inv-loop μ-loop) → c .first .result < role-count
-privilege-lt c = visit-lt (c .before .before .loop .inv) (c .before .loop-test .taken) (c .first .ensures)
+lowest-member-requires : tie.Need-lowest-member-requires Inv-loop μ-loop
+lowest-member-requires c κs = tt
 
-cast-i : tie.Need-cast-i Inv-loop μ-loop
-cast-i c = let l = privilege-lt c in search needs
+cast-p : tie.Need-cast-p Inv-loop μ-loop
+cast-p c = search needs
 
 without-lowest-requires : tie.Need-without-lowest-requires Inv-loop μ-loop
 without-lowest-requires c κs = tt
@@ -36,33 +35,38 @@ without-lowest-requires c κs = tt
 entry-requires : tie.Need-entry-requires Inv-loop μ-loop
 entry-requires c κs = tt
 
+meets-requires : tie.Need-meets-requires Inv-loop μ-loop
+meets-requires c κs = tt
+
 returns : tie.Need-returns Inv-loop μ-loop
-unfolding at intersection holds-pair
+unfolding holds-pair
 returns c =
-    let b = c .before .before in
-    let s = b .before .before .before .loop .inv in
-    let some = b .before .before .loop-test .taken in
-    let e = b .before .first .ensures in
-    any-hit s some e (partner-found _ s some e (b .without-lowest .ensures) (subst (λ (z : ℕ). intersection (b .without-lowest .result) z ≢ 0) (c .before .entry .ensures) (c .if1 .taken)))
+    let b = c .before .before .before in
+    let l = b .before .before .before in
+    let some = some-left (l .is-empty .ensures) (b .before .before .if1 .taken) in
+    let e = b .before .lowest-member .ensures in
+    any-hit (l .before .loop .inv) some e
+    (partner-test _ (l .before .loop .inv) some e (b .without-lowest .ensures) ∙ ap (meets _) (sym (c .before .before .entry .ensures)) ∙ sym (c .before .meets .ensures) ∙ c .if2 .taken)
 
 loop-less : tie.Need-loop-less Inv-loop μ-loop
 loop-less c =
-    let b = c .before .before in
-    falls (b .before .before .before .loop .inv) (b .before .before .loop-test .taken) (b .before .first .ensures) (b .without-lowest .ensures)
+    let b = c .before .before .before in
+    let l = b .before .before .before in
+    falls (l .before .loop .inv) (some-left (l .is-empty .ensures) (b .before .before .if1 .taken)) (b .before .lowest-member .ensures) (b .without-lowest .ensures)
 
 loop-again : tie.Need-loop-again Inv-loop μ-loop
-unfolding at intersection
 loop-again c =
-    let b = c .before .before in
-    let s = b .before .before .before .loop .inv in
-    let some = b .before .before .loop-test .taken in
-    let e = b .before .first .ensures in
+    let b = c .before .before .before in
+    let l = b .before .before .before in
+    let some = some-left (l .is-empty .ensures) (b .before .before .if1 .taken) in
+    let e = b .before .lowest-member .ensures in
     let d = b .without-lowest .ensures in
-    goes-on s some e d (partner-none _ s some e d (subst (λ (z : ℕ). intersection (b .without-lowest .result) z ≡ 0) (c .before .entry .ensures) (c .if1 .left)))
+    goes-on (l .before .loop .inv) some e d
+    (partner-test _ (l .before .loop .inv) some e d ∙ ap (meets _) (sym (c .before .before .entry .ensures)) ∙ sym (c .before .meets .ensures) ∙ c .if2 .left)
 
 returns-2 : tie.Need-returns-2 Inv-loop μ-loop
 unfolding holds-pair
-returns-2 c = any-miss (c .before .loop .inv) (c .loop-test .left)
+returns-2 c = any-miss (c .before .before .loop .inv) (none-left (c .before .is-empty .ensures) (c .if1 .left))
 
 pub holds-pair-spec : {M : Type 1} → statement M
 holds-pair-spec =
@@ -71,10 +75,12 @@ holds-pair-spec =
     Inv-loop
     μ-loop
     loop-holds
-    first-requires
-    cast-i
+    is-empty-requires
+    lowest-member-requires
+    cast-p
     without-lowest-requires
     entry-requires
+    meets-requires
     returns
     loop-less
     loop-again

@@ -53,7 +53,7 @@ none-before h (AddEdge a b) o = refl
 none-before h (RemoveEdge a b) o = absurd (miss (0 ∷ 1 ∷ 2 ∷ 3 ∷ 4 ∷ 5 ∷ []) 6 tt o)
 
 returns-3 : tie.Need-returns-3
-returns-3 c = rw (none-before _ (c .before .before .before .args .change) (c .before .match .keys2)) (c .judge-sets2 .ensures)
+returns-3 c = rw (none-before _ (c .before .before .before .before .args .change) (c .before .match .keys2)) (c .judge-sets2 .ensures)
 
 pub judge-closed-spec : {M : Type 1} → statement M
 judge-closed-spec =

@@ -57,11 +57,11 @@ raised c =
     let p = c .before .before .before .before in
     sym (p .before .member .ensures ∙ ap (member _) (p .before .before .senior-roles .ensures)) ∙ not-false _ (p .if1 .left)
 
-first-requires : tie.Need-first-requires Inv-loop μ-loop
-first-requires c κs = tt
+lowest-role-requires : tie.Need-lowest-role-requires Inv-loop μ-loop
+lowest-role-requires c κs = tt
 
 cast-s : tie.Need-cast-s Inv-loop μ-loop
-cast-s c = let l = visit-lt (c .before .before .loop .inv) (c .before .loop-test .taken) (c .first .ensures) in search needs
+cast-s c = let l = visit-lt (c .before .before .loop .inv) (c .before .loop-test .taken) (c .lowest-role .ensures) in search needs
 
 entry-requires-2 : tie.Need-entry-requires-2 Inv-loop μ-loop
 entry-requires-2 c κs = tt
@@ -76,11 +76,11 @@ returns-2 c =
     let a = b .before .before .before .before .before .before .before .before .before .args in
     let g = drawn-from (a .roles) (a .sets .now) in
     let top = b .before .before .before .before .entry .ensures in
-    any-hit (b .loop .inv) (c .before .before .loop-test .taken) (c .before .first .ensures)
+    any-hit (b .loop .inv) (c .before .before .loop-test .taken) (c .before .lowest-role .ensures)
     (elim (c .if2 .came) [
-      | inl t ↦ way-to-max g (a .all) (a .j) (c .before .first .result) (t .taken)
-      | inr (inl (f, t)) ↦ way-from-min g (a .all) (a .j) (c .before .first .result) (t .taken)
-      | inr (inr (f, h, e, i, t)) ↦ way-inside g (a .all) (a .j) (c .before .first .result) (sym (i .ensures ∙ rw (e .ensures, top)) ∙ t .taken)
+      | inl t ↦ way-to-max g (a .all) (a .j) (c .before .lowest-role .result) (t .taken)
+      | inr (inl (f, t)) ↦ way-from-min g (a .all) (a .j) (c .before .lowest-role .result) (t .taken)
+      | inr (inr (f, h, e, i, t)) ↦ way-inside g (a .all) (a .j) (c .before .lowest-role .result) (sym (i .ensures ∙ rw (e .ensures, top)) ∙ t .taken)
     ])
     ∙ found-below g (a .all) (a .j) (raised (b .before))
 
@@ -90,7 +90,7 @@ without-lowest-requires c κs = tt
 loop-less : tie.Need-loop-less Inv-loop μ-loop
 loop-less c =
     let b = c .before .before .before .before .before .before in
-    falls (b .before .before .loop .inv) (b .before .loop-test .taken) (b .first .ensures) (c .without-lowest .ensures)
+    falls (b .before .before .loop .inv) (b .before .loop-test .taken) (b .lowest-role .ensures) (c .without-lowest .ensures)
 
 loop-again : tie.Need-loop-again Inv-loop μ-loop
 unfolding effective
@@ -100,8 +100,8 @@ loop-again c =
     let b = f .before .before in
     let l = b .before .before in
     let a = l .before .before .before .before .before .before .before .before .before .args in
-    goes-on (l .loop .inv) (b .before .loop-test .taken) (b .first .ensures) (c .without-lowest .ensures)
-    (no-way (drawn-from (a .roles) (a .sets .now)) (a .all) (a .j) (b .first .result) (f .before .if2 .left) (f .if3 .left)
+    goes-on (l .loop .inv) (b .before .loop-test .taken) (b .lowest-role .ensures) (c .without-lowest .ensures)
+    (no-way (drawn-from (a .roles) (a .sets .now)) (a .all) (a .j) (b .lowest-role .result) (f .before .if2 .left) (f .if3 .left)
     (sym (i .strictly-included .ensures ∙ rw (i .before .entry2 .ensures, l .before .before .before .before .entry .ensures)) ∙ c .before .if4 .left))
 
 returns-3 : tie.Need-returns-3 Inv-loop μ-loop
@@ -124,7 +124,7 @@ some-below-spec =
     union-requires
     intersection-requires
     loop-holds
-    first-requires
+    lowest-role-requires
     cast-s
     entry-requires-2
     strictly-included-requires

@@ -22,7 +22,7 @@ included-requires : tie.Need-included-requires
 included-requires c κs = tt
 
 returns : tie.Need-returns
-returns c = c .included .ensures ∙ ap₂ included (c .before .before .before .entry .ensures) (c .before .entry2 .ensures)
+returns c = c .included .ensures ∙ ap₂ included (c .before .before .entry .ensures) (c .before .entry2 .ensures)
 
 pub still-below-spec : {M : Type 1} → statement M
 still-below-spec =

@@ -25,11 +25,11 @@ difference-requires c κs = tt
 loop-holds : tie.Need-loop-holds Inv-loop μ-loop
 loop-holds c = rw (c .difference .ensures) (starts role-count _ _ (difference-lt role-count _ _ (search needs)))
 
-first-requires : tie.Need-first-requires Inv-loop μ-loop
-first-requires c κs = tt
+lowest-role-requires : tie.Need-lowest-role-requires Inv-loop μ-loop
+lowest-role-requires c κs = tt
 
-role-lt : (c : tie.After-first Inv-loop μ-loop) → c .first .result < role-count
-role-lt c = visit-lt (c .before .before .loop .inv) (c .before .loop-test .taken) (c .first .ensures)
+role-lt : (c : tie.After-lowest-role Inv-loop μ-loop) → c .lowest-role .result < role-count
+role-lt c = visit-lt (c .before .before .loop .inv) (c .before .loop-test .taken) (c .lowest-role .ensures)
 
 cast-i : tie.Need-cast-i Inv-loop μ-loop
 cast-i c = let l = role-lt c in search needs
@@ -37,39 +37,36 @@ cast-i c = let l = role-lt c in search needs
 without-lowest-requires : tie.Need-without-lowest-requires Inv-loop μ-loop
 without-lowest-requires c κs = tt
 
-mul-has-set : tie.Need-mul-has-set Inv-loop μ-loop
-mul-has-set c = let l = role-lt (c .before) in search needs
-
-element-copy-out-has-set : tie.Need-element-copy-out-has-set Inv-loop μ-loop
-element-copy-out-has-set c = role-lt (c .before)
+entry-requires : tie.Need-entry-requires Inv-loop μ-loop
+entry-requires c κs = tt
 
 has-set-requires : tie.Need-has-set-requires Inv-loop μ-loop
 has-set-requires c κs = tt
 
 returns : tie.Need-returns Inv-loop μ-loop
-unfolding at effective twin-role
+unfolding effective twin-role
 returns c =
     let b = c .before .before .before in
     let s = b .before .before .before .loop .inv in
     let some = b .before .before .loop-test .taken in
-    let e = b .before .first .ensures in
-    hit s some e (sym (twin-test _ s some e (b .without-lowest .ensures)) ∙ sym (c .before .has-set .ensures) ∙ c .if1 .taken)
+    let e = b .before .lowest-role .ensures in
+    hit s some e (sym (twin-test _ s some e (b .without-lowest .ensures)) ∙ sym (c .before .has-set .ensures ∙ rw (c .before .before .entry .ensures)) ∙ c .if1 .taken)
     ∙ among-ordinary _ _
 
 loop-less : tie.Need-loop-less Inv-loop μ-loop
 loop-less c =
     let b = c .before .before .before in
-    falls (b .before .before .before .loop .inv) (b .before .before .loop-test .taken) (b .before .first .ensures) (b .without-lowest .ensures)
+    falls (b .before .before .before .loop .inv) (b .before .before .loop-test .taken) (b .before .lowest-role .ensures) (b .without-lowest .ensures)
 
 loop-again : tie.Need-loop-again Inv-loop μ-loop
-unfolding at effective
+unfolding effective
 loop-again c =
     let b = c .before .before .before in
     let s = b .before .before .before .loop .inv in
     let some = b .before .before .loop-test .taken in
-    let e = b .before .first .ensures in
+    let e = b .before .lowest-role .ensures in
     let d = b .without-lowest .ensures in
-    goes-on s some e d (sym (twin-test _ s some e d) ∙ sym (c .before .has-set .ensures) ∙ c .if1 .left)
+    goes-on s some e d (sym (twin-test _ s some e d) ∙ sym (c .before .has-set .ensures ∙ rw (c .before .before .entry .ensures)) ∙ c .if1 .left)
 
 returns-2 : tie.Need-returns-2 Inv-loop μ-loop
 unfolding twin-role
@@ -83,11 +80,10 @@ twin-role-spec =
     μ-loop
     difference-requires
     loop-holds
-    first-requires
+    lowest-role-requires
     cast-i
     without-lowest-requires
-    mul-has-set
-    element-copy-out-has-set
+    entry-requires
     has-set-requires
     returns
     loop-less
