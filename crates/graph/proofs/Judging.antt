@@ -13,7 +13,7 @@ use Rattle.graph.specs.Refusing.{Check, Verdict, passed, refused, verdic
 use Rattle.graph.specs.Reading.{drawn-from, read-verdict}
 use Rattle.graph.specs.declared.Refusal.{Refusal}
 use Rattle.graph.specs.declared.Verdict.the-variants.{the-data, Passed, Refused}
-use Rattle.graph.proofs.Searching.{found-test}
+use Rattle.graph.proofs.Searches.{found-test}
 
 -- The first check holds, or the others decide.
 module _ (c : Check) (l : List Check) where

@@ -15,7 +15,7 @@ pub mod Changes
 pub mod Adding
 pub mod Drawings
 pub mod Loops
-pub mod Searching
+pub mod Searches
 pub mod Acyclic
 pub mod Memo
 pub mod Stores

@@ -1,4 +1,5 @@
 // Closing: a role's effective set is its direct privileges joined with the sets of its juniors. Each role is done once, whatever the number of ways down to it.
+use crate::ALL_ROLES;
 use crate::PrivilegeSet;
 use crate::privileges;
 use crate::table::SetTable;
@@ -15,9 +16,6 @@ ghost use Rattle.graph.specs.Graph.{role-count};
 ghost use Rattle.graph.specs.Closing.{gathered};
 ghost use Rattle.graph.specs.Reading.{read-set, sets-in};
 ghost use Rattle.graph.specs.Working.{Ending, Acyclic, closed-set, Memo};
-
-// The set of all roles.
-const ALL: u64 = 0xffff_ffff_ffff_ffff;
 
 // What gathering gives: the roles that are done, and the gathered set.
 struct Gathered {
@@ -84,7 +82,7 @@ pub(crate) fn close(present: u64, directs: &SetTable, juniors: &[u64; 64]) -> Se
     ensures { λ r. ⌜ sets-in r ≡ table role-count (gathered (at (sets-in (now (directs .entry)))) (λ t r. spec.member t (at (now (juniors .entry)) r)) role-count) ⌝ }
 {
     let mut sets = copied(directs);
-    let mut done = sets::difference(ALL, present);
+    let mut done = sets::difference(ALL_ROLES, present);
     let mut rest = present;
     while rest != 0 {
         let r = sets::lowest_member(rest) as usize;

@@ -9,12 +9,12 @@ ghost use Rattle.graph.specs.Graph.{privilege-count};
 ghost use Rattle.graph.specs.Conflicts as spec;
 ghost use Rattle.graph.specs.Refusing.{no-privilege-number, pair-of-one, verdict, declare-checks, lift-checks};
 ghost use Rattle.graph.specs.Reading.{read-set, sets-in, graph-of, read-verdict};
-use super::refusing::offered_role;
-use super::refusing::refuse;
 use crate::ConflictEntry;
 use crate::Privilege;
 use crate::Verdict;
 use crate::privileges;
+use crate::refusing::refuse;
+use crate::searching::offered_role;
 use crate::table::entry;
 
 // The lower of two privileges.

@@ -8,6 +8,9 @@ ghost use Rattle.graph.specs.Graph.{role-count};
 ghost use Rattle.graph.specs.Drawing.{below, edge, juniors, seniors, edge-count, direct, roles-below};
 ghost use Rattle.graph.specs.Reading.{read-set, sets-in, drawn-from};
 ghost use Rattle.graph.specs.Working.{less-juniors};
+use crate::END_ROLES;
+use crate::MAX_ROLE;
+use crate::MIN_ROLE;
 use crate::Privilege;
 use crate::PrivilegeSet;
 use crate::Role;
@@ -24,14 +27,14 @@ use crate::table::whole;
 pub fn ordinary_roles(roles: u64) -> u64
     ensures { λ v. ⌜ v ≡ difference roles 3 ⌝ }
 {
-    sets::difference(roles, 3)
+    sets::difference(roles, END_ROLES)
 }
 
 // The roles that can lie above another: the ordinary ones and MaxRole.
 pub fn senior_roles(roles: u64) -> u64
     ensures { λ v. ⌜ v ≡ union (difference roles 3) 2 ⌝ }
 {
-    sets::union(ordinary_roles(roles), 2)
+    sets::union(ordinary_roles(roles), MAX_ROLE)
 }
 
 // The roles of `all` whose sets are strictly included in `top`.
@@ -55,10 +58,10 @@ pub fn lower(roles: u64, sets: &[u64], s: usize) -> u64
 {
     let ordinary = ordinary_roles(roles);
     if s == 1 {
-        return sets::union(ordinary, 1);
+        return sets::union(ordinary, MIN_ROLE);
     }
     if sets::member(s, ordinary) {
-        return sets::union(included_in(ordinary, sets, entry(sets, s)), 1);
+        return sets::union(included_in(ordinary, sets, entry(sets, s)), MIN_ROLE);
     }
     0
 }
@@ -150,7 +153,7 @@ fn lies_below(roles: u64, sets: &[u64], r: usize, s: usize) -> bool
     ensures { λ v. ⌜ v ≡ below (drawn-from roles (now (sets .entry))) r s ⌝ }
 {
     let high = sets::member(s, senior_roles(roles));
-    let low = sets::member(r, sets::union(ordinary_roles(roles), 1));
+    let low = sets::member(r, sets::union(ordinary_roles(roles), MIN_ROLE));
     let strict = privileges::strictly_included(entry(sets, r), entry(sets, s));
     high & (low & ((s == 1) | ((r == 0) | strict)))
 }
@@ -228,7 +231,7 @@ fn inherited(roles: u64, sets: &[u64], s: usize) -> PrivilegeSet
     ensures { λ v. let g = drawn-from roles (now (sets .entry)) in ⌜ read-set v ≡ gather role-count (λ r. edge g r s) (at (sets-in (now (sets .entry)))) ⌝ }
 {
     let under = lower(roles, sets, s);
-    let ordinary = sets::difference(under, 1);
+    let ordinary = sets::difference(under, MIN_ROLE);
     let among = if ordinary == 0 { under } else { ordinary };
     union_at(sets, among)
 }

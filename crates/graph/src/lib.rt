@@ -1,12 +1,21 @@
 // The role graph with its conflicts: drawing, closing, the edits of kinds 1 to 9 and their refusals.
-pub mod checking;
 mod close;
 pub mod declaring;
 pub mod drawing;
 mod entries;
 pub mod privileges;
 pub mod refusing;
+pub mod searching;
 pub mod table;
+
+// MinRole, MaxRole, both, and all role numbers, each as a set of roles.
+const MIN_ROLE: u64 = 1;
+
+const MAX_ROLE: u64 = 2;
+
+const END_ROLES: u64 = 3;
+
+const ALL_ROLES: u64 = 0xffff_ffff_ffff_ffff;
 
 // A role's number.
 pub struct Role(pub u8);

@@ -1,200 +1,257 @@
-// The searches behind the refusals: each gives the lowest role that its refusal names, and 64 where there is none.
+// What refuses a change, in the order of the numbers: 2 to 5 and 20 to 25 before closing, 26 to 29 after it. Refusals 24 and 30 concern seats and are not here.
 ghost use mathlib.Core.Path.{_≡_};
-ghost use mathlib.Core.Bool.{_&&_, not};
-ghost use mathlib.Core.List.{[], _++_};
-ghost use lib.Dec.{eqb};
-ghost use Rattle.sets.specs.Counting.{any, lowest};
-ghost use Rattle.sets.specs.Sets.{member, included, lowest-member};
+ghost use mathlib.Core.Bool.{_||_};
+ghost use mathlib.Core.List.{[], _∷_, _++_};
+ghost use Rattle.sets.specs.Sets.{member, included};
 ghost use Rattle.graph.specs.Tables.{at};
-ghost use Rattle.graph.specs.Graph.{role-count, is-end, present};
-ghost use Rattle.graph.specs.Conflicts.{holds-both, holds-pair};
-ghost use Rattle.graph.specs.Drawing.{below};
-ghost use Rattle.graph.specs.Refusing.{at-or-below, empty-role, twin-role, pair-role, offered-role, refused, verdict, still-below, closed-checks};
+ghost use Rattle.graph.specs.Graph.{present};
+ghost use Rattle.graph.specs.Editing.{add-by-place, add-by-privileges, grant, withdraw, add-edge, remove-edge};
+ghost use Rattle.graph.specs.Refusing.{no-role-number, no-privilege-number, end-role, edge-to-itself, role-absent, refused, verdict, early, state-checks, still-below, closed-checks};
 ghost use Rattle.graph.specs.Reading.{read-set, sets-in, drawn-from, graph-of, read-verdict, read-change};
-use super::drawing::ordinary_roles;
-use super::drawing::senior_roles;
 use crate::Change;
 use crate::Privilege;
 use crate::PrivilegeSet;
 use crate::Refusal;
 use crate::Role;
 use crate::Verdict;
+use crate::drawing;
 use crate::privileges;
+use crate::searching;
 use crate::table::entry;
 
-// MinRole and MaxRole, as a set.
-const ENDS: u64 = 3;
-
-// The lowest role of a set; 64 for the empty set.
-fn lowest_role(s: u64) -> u8
-    ensures { λ r. ⌜ r ≡ lowest-member role-count s ⌝ }
+// Whether the role is present.
+fn is_present(roles: u64, r: u8) -> bool
+    ensures { λ b. ⌜ b ≡ present (drawn-from roles []) r ⌝ }
 {
-    sets::lowest_member(s) as u8
+    let i = r as usize;
+    r < 2 || sets::member(i, roles)
 }
 
-// The lowest ordinary role whose set is empty.
-pub fn empty_role(roles: u64, sets: &[u64]) -> u8
-    ensures { λ r. ⌜ r ≡ lowest role-count (empty-role (drawn-from roles (now (sets .entry)))) ⌝ }
+// Whether one of two sets has the number.
+fn in_either(r: u8, s: u64, t: u64) -> bool
+    ensures { λ b. ⌜ b ≡ member r s || member r t ⌝ }
 {
-    let mut rest = sets::difference(roles, ENDS);
-    while rest != 0 {
-        let r = lowest_role(rest);
-        let i = r as usize;
-        if privileges::is_empty(entry(sets, i)) {
-            return r;
-        }
-        rest = sets::without_lowest(rest);
+    let i = r as usize;
+    sets::member(i, s) || sets::member(i, t)
+}
+
+// Kind 1, by the fields and the roles.
+fn judge_add_by_place(
+    roles: u64,
+    sets: &[u64],
+    a: Role,
+    own: PrivilegeSet,
+    juniors: u64,
+    seniors: u64,
+) -> Verdict
+    ensures { λ v. ⌜ read-verdict v ≡ early (drawn-from roles (now (sets .entry))) (add-by-place (a .0) (read-set own) juniors seniors) ⌝ }
+{
+    let r = a.0;
+    if 64 <= r {
+        return refuse(2, r);
     }
-    64
-}
-
-// Whether some role among these has the set s.
-fn has_set(among: u64, sets: &[u64], s: PrivilegeSet) -> bool
-    ensures { λ r. ⌜ r ≡ any role-count (λ n. member n among && eqb (at (sets-in (now (sets .entry))) n) (read-set s)) ⌝ }
-{
-    let mut rest = among;
-    while rest != 0 {
-        let r = lowest_role(rest);
-        let i = r as usize;
-        if privileges::equal(entry(sets, i), s) {
-            return true;
-        }
-        rest = sets::without_lowest(rest);
+    if r < 2 {
+        return refuse(3, r);
     }
-    false
-}
-
-// The lowest ordinary role that has a twin: its twin then is a higher role.
-pub fn twin_role(roles: u64, sets: &[u64]) -> u8
-    ensures { λ r. ⌜ r ≡ lowest role-count (twin-role (drawn-from roles (now (sets .entry)))) ⌝ }
-{
-    let mut rest = sets::difference(roles, ENDS);
-    while rest != 0 {
-        let r = lowest_role(rest);
-        let i = r as usize;
-        rest = sets::without_lowest(rest);
-        if has_set(rest, sets, entry(sets, i)) {
-            return r;
-        }
+    let low = searching::end_in(juniors);
+    if low < 64 {
+        return refuse(3, low);
     }
-    64
-}
-
-// Whether a set holds both privileges of some declared conflict: one of them is the lower.
-pub fn holds_pair(conflicts: &[u64], s: PrivilegeSet) -> bool
-    ensures { λ r. ⌜ r ≡ holds-pair (sets-in (now (conflicts .entry))) (read-set s) ⌝ }
-{
-    let mut rest = s;
-    while !privileges::is_empty(rest) {
-        let p = privileges::lowest_member(rest) as usize;
-        rest = privileges::without_lowest(rest);
-        if privileges::meets(rest, entry(conflicts, p)) {
-            return true;
-        }
+    let high = searching::end_in(seniors);
+    if high < 64 {
+        return refuse(3, high);
     }
-    false
-}
-
-// The lowest ordinary role that holds both privileges of some declared conflict.
-pub fn pair_role<'a>(roles: u64, sets: &'a [u64], conflicts: &'a [u64]) -> u8
-    ensures { λ r. ⌜ r ≡ lowest role-count (pair-role (graph-of roles (now (sets .entry)) (now (conflicts .entry)))) ⌝ }
-{
-    let mut place: u8 = 64;
-    let mut rest = sets::difference(roles, ENDS);
-    'roles: while rest != 0 {
-        let r = lowest_role(rest);
-        let i = r as usize;
-        let mut left = entry(sets, i);
-        while !privileges::is_empty(left) {
-            let p = privileges::lowest_member(left) as usize;
-            left = privileges::without_lowest(left);
-            if privileges::meets(left, entry(conflicts, p)) {
-                place = r;
-                break 'roles;
-            }
-        }
-        rest = sets::without_lowest(rest);
+    if in_either(r, juniors, seniors) {
+        return refuse(5, r);
     }
-    place
+    judge_placing(roles, sets, r, juniors, seniors)
 }
 
-// Whether a set holds both a and b.
-pub fn holds_both(a: Privilege, b: Privilege, s: PrivilegeSet) -> bool
-    ensures { λ r. ⌜ r ≡ holds-both (a .0) (b .0) (read-set s) ⌝ }
+// Kind 1, by the graph at hand: 20, 21 and 25.
+fn judge_placing(roles: u64, sets: &[u64], r: u8, juniors: u64, seniors: u64) -> Verdict
+    ensures { λ v. ⌜ read-verdict v ≡ verdict (state-checks (drawn-from roles (now (sets .entry))) (add-by-place r 0 juniors seniors)) ⌝ }
 {
-    privileges::member(a, s) && privileges::member(b, s)
-}
-
-// The lowest ordinary role that holds both privileges of the pair offered.
-pub fn offered_role(roles: u64, sets: &[u64], a: Privilege, b: Privilege) -> u8
-    ensures { λ r. ⌜ r ≡ lowest role-count (offered-role (drawn-from roles (now (sets .entry))) (a .0) (b .0)) ⌝ }
-{
-    let mut rest = sets::difference(roles, ENDS);
-    while rest != 0 {
-        let r = lowest_role(rest);
-        let i = r as usize;
-        if holds_both(a, b, entry(sets, i)) {
-            return r;
-        }
-        rest = sets::without_lowest(rest);
+    if is_present(roles, r) {
+        return refuse(20, r);
     }
-    64
-}
-
-// The lowest end role of a set.
-pub fn end_in(s: u64) -> u8
-    ensures { λ r. ⌜ r ≡ lowest role-count (λ n. is-end n && member n s) ⌝ }
-{
-    lowest_role(sets::intersection(ENDS, s))
-}
-
-// The lowest role of a set that is absent.
-pub fn absent_in(roles: u64, s: u64) -> u8
-    ensures { λ r. ⌜ r ≡ lowest role-count (λ n. member n s && not (present (drawn-from roles []) n)) ⌝ }
-{
-    lowest_role(sets::difference(s, sets::union(ENDS, roles)))
-}
-
-// Whether some role of `all` lies below j: j can lie above others, and a role that can lie below others has a set that j's strictly includes.
-fn some_below(roles: u64, sets: &[u64], all: u64, j: usize) -> bool
-    ensures { λ r. ⌜ r ≡ any role-count (λ s. member s all && below (drawn-from roles (now (sets .entry))) s j) ⌝ }
-{
-    if !sets::member(j, senior_roles(roles)) {
-        return false;
+    let low = searching::absent_in(roles, juniors);
+    if low < 64 {
+        return refuse(21, low);
     }
-    let top = entry(sets, j);
-    let mut rest = sets::intersection(all, sets::union(ordinary_roles(roles), 1));
-    while rest != 0 {
-        let s = lowest_role(rest) as usize;
-        if j == 1 || s == 0 || privileges::strictly_included(entry(sets, s), top) {
-            return true;
-        }
-        rest = sets::without_lowest(rest);
+    let high = searching::absent_in(roles, seniors);
+    if high < 64 {
+        return refuse(21, high);
     }
-    false
+    let place = searching::circle_in(roles, sets, juniors, seniors);
+    if place < 64 {
+        return refuse(25, place);
+    }
+    Verdict::Passed
 }
 
-// Whether some senior is j or lies below it.
-fn circle_at(roles: u64, sets: &[u64], seniors: u64, j: usize) -> bool
-    ensures { λ r. ⌜ r ≡ any role-count (λ s. member s seniors && at-or-below (drawn-from roles (now (sets .entry))) s j) ⌝ }
+// Kind 2.
+fn judge_add_by_privileges(roles: u64, sets: &[u64], a: Role, own: PrivilegeSet) -> Verdict
+    ensures { λ v. ⌜ read-verdict v ≡ early (drawn-from roles (now (sets .entry))) (add-by-privileges (a .0) (read-set own)) ⌝ }
 {
-    sets::member(j, seniors) || some_below(roles, sets, seniors, j)
+    let r = a.0;
+    if 64 <= r {
+        return refuse(2, r);
+    }
+    if r < 2 {
+        return refuse(3, r);
+    }
+    if is_present(roles, r) {
+        return refuse(20, r);
+    }
+    Verdict::Passed
 }
 
-// The lowest junior that some senior is or lies below.
-pub fn circle_in(roles: u64, sets: &[u64], juniors: u64, seniors: u64) -> u8
-    ensures { λ r. ⌜ r ≡ lowest role-count (λ j. member j juniors && any role-count (λ s. member s seniors && at-or-below (drawn-from roles (now (sets .entry))) s j)) ⌝ }
+// What kinds 3, 10 and 11 want of the role that they name: refusals 2, 3 and 21.
+pub fn judge_role(roles: u64, a: Role) -> Verdict
+    ensures { λ v. ⌜ read-verdict v ≡ verdict (no-role-number (a .0) ∷ end-role (a .0) ∷ role-absent (drawn-from roles []) (a .0) ∷ []) ⌝ }
 {
-    let mut rest = juniors;
-    while rest != 0 {
-        let j = lowest_role(rest);
-        let i = j as usize;
-        if circle_at(roles, sets, seniors, i) {
-            return j;
-        }
-        rest = sets::without_lowest(rest);
+    if 64 <= a.0 {
+        return refuse(2, a.0);
     }
-    64
+    if a.0 < 2 {
+        return refuse(3, a.0);
+    }
+    if !is_present(roles, a.0) {
+        return refuse(21, a.0);
+    }
+    Verdict::Passed
+}
+
+// What kinds 4 and 5 want of the role and the privilege that they name: refusals 2, 3 and 21.
+fn judge_role_privilege(roles: u64, a: Role, b: Privilege) -> Verdict
+    ensures { λ v. ⌜ read-verdict v ≡ verdict (no-role-number (a .0) ∷ no-privilege-number (b .0) ∷ end-role (a .0) ∷ role-absent (drawn-from roles []) (a .0) ∷ []) ⌝ }
+{
+    let r = a.0;
+    let p = b.0;
+    if 64 <= r {
+        return refuse(2, r);
+    }
+    if 64 <= p {
+        return refuse(2, p);
+    }
+    if r < 2 {
+        return refuse(3, r);
+    }
+    if !is_present(roles, r) {
+        return refuse(21, r);
+    }
+    Verdict::Passed
+}
+
+// Kind 4.
+fn judge_grant(roles: u64, sets: &[u64], a: Role, b: Privilege) -> Verdict
+    ensures { λ v. ⌜ read-verdict v ≡ early (drawn-from roles (now (sets .entry))) (grant (a .0) (b .0)) ⌝ }
+{
+    let named = judge_role_privilege(roles, a, b);
+    let Verdict::Passed = named else {
+        return named;
+    };
+    if privileges::member(b, drawing::effective_of(sets, a)) {
+        return refuse(22, a.0);
+    }
+    Verdict::Passed
+}
+
+// Kind 5.
+fn judge_withdraw(roles: u64, sets: &[u64], a: Role, b: Privilege) -> Verdict
+    ensures { λ v. ⌜ read-verdict v ≡ early (drawn-from roles (now (sets .entry))) (withdraw (a .0) (b .0)) ⌝ }
+{
+    let named = judge_role_privilege(roles, a, b);
+    let Verdict::Passed = named else {
+        return named;
+    };
+    if !drawing::is_direct(roles, sets, a, b) {
+        return refuse(23, a.0);
+    }
+    Verdict::Passed
+}
+
+// What kinds 6 and 7 want of the two roles that they name: refusals 2, 3, 5 and 21.
+fn judge_two_roles(roles: u64, a: Role, b: Role) -> Verdict
+    ensures { λ v. let g = drawn-from roles [] in ⌜ read-verdict v ≡ verdict (no-role-number (a .0) ∷ no-role-number (b .0) ∷ end-role (a .0) ∷ end-role (b .0) ∷ edge-to-itself (a .0) (b .0) ∷ role-absent g (a .0) ∷ role-absent g (b .0) ∷ []) ⌝ }
+{
+    let r = a.0;
+    let s = b.0;
+    if 64 <= r {
+        return refuse(2, r);
+    }
+    if 64 <= s {
+        return refuse(2, s);
+    }
+    if r < 2 {
+        return refuse(3, r);
+    }
+    if s < 2 {
+        return refuse(3, s);
+    }
+    if r == s {
+        return refuse(5, r);
+    }
+    if !is_present(roles, r) {
+        return refuse(21, r);
+    }
+    if !is_present(roles, s) {
+        return refuse(21, s);
+    }
+    Verdict::Passed
+}
+
+// Kind 6.
+fn judge_add_edge(roles: u64, sets: &[u64], a: Role, b: Role) -> Verdict
+    ensures { λ v. ⌜ read-verdict v ≡ early (drawn-from roles (now (sets .entry))) (add-edge (a .0) (b .0)) ⌝ }
+{
+    let named = judge_two_roles(roles, a, b);
+    let Verdict::Passed = named else {
+        return named;
+    };
+    if drawing::is_below(roles, sets, a, b) {
+        return refuse(22, a.0);
+    }
+    if drawing::is_below(roles, sets, b, a) {
+        return refuse(25, a.0);
+    }
+    Verdict::Passed
+}
+
+// Kind 7.
+fn judge_remove_edge(roles: u64, sets: &[u64], a: Role, b: Role) -> Verdict
+    ensures { λ v. ⌜ read-verdict v ≡ early (drawn-from roles (now (sets .entry))) (remove-edge (a .0) (b .0)) ⌝ }
+{
+    let named = judge_two_roles(roles, a, b);
+    let Verdict::Passed = named else {
+        return named;
+    };
+    if !drawing::is_edge(roles, sets, a, b) {
+        return refuse(23, a.0);
+    }
+    Verdict::Passed
+}
+
+// What refuses a change before closing, if anything does.
+pub fn judge(roles: u64, sets: &[u64], change: Change) -> Verdict
+    ensures { λ v. ⌜ read-verdict v ≡ early (drawn-from roles (now (sets .entry))) (read-change change) ⌝ }
+{
+    match change {
+        Change::AddByPlace(a, own, juniors, seniors) => judge_add_by_place(
+            roles,
+            sets,
+            a,
+            own,
+            juniors,
+            seniors,
+        ),
+        Change::AddByPrivileges(a, own) => judge_add_by_privileges(roles, sets, a, own),
+        Change::RemoveRole(a, _) => judge_role(roles, a),
+        Change::Grant(a, b) => judge_grant(roles, sets, a, b),
+        Change::Withdraw(a, b) => judge_withdraw(roles, sets, a, b),
+        Change::AddEdge(a, b) => judge_add_edge(roles, sets, a, b),
+        Change::RemoveEdge(a, b) => judge_remove_edge(roles, sets, a, b),
+    }
 }
 
 // A refusal as a verdict.
@@ -208,15 +265,15 @@ pub fn refuse(number: u8, place: u8) -> Verdict
 fn judge_sets<'a>(roles: u64, sets: &'a [u64], conflicts: &'a [u64]) -> Verdict
     ensures { λ r. ⌜ read-verdict r ≡ verdict (closed-checks (graph-of roles (now (sets .entry)) (now (conflicts .entry)))) ⌝ }
 {
-    let empty = empty_role(roles, sets);
+    let empty = searching::empty_role(roles, sets);
     if empty < 64 {
         return refuse(27, empty);
     }
-    let twin = twin_role(roles, sets);
+    let twin = searching::twin_role(roles, sets);
     if twin < 64 {
         return refuse(28, twin);
     }
-    let pair = pair_role(roles, sets, conflicts);
+    let pair = searching::pair_role(roles, sets, conflicts);
     if pair < 64 {
         return refuse(29, pair);
     }

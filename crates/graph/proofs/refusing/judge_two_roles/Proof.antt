@@ -1,0 +1,147 @@
+-- `refusing::judge_two_roles` meets its contract: each return is the check that it stands for.
+-- Assumes nothing.
+use mathlib.Core.Path.{sym, _∙_}
+use borrow.Author.Tests.{lt-ltb, le-ltb, le-leb, lt-leb, eq-eqb, ne-eqb, not-true, not-false}
+use Rattle.graph.specs.Graph.{is-end}
+use Rattle.graph.specs.Refusing.{verdict}
+use Rattle.graph.specs.Reading.{read-verdict}
+use Rattle.graph.proofs.refusing.judge_two_roles.Statement.{statement}
+use Rattle.graph.proofs.refusing.judge_two_roles.Tie as tie
+
+refuse-requires : tie.Need-refuse-requires
+refuse-requires c κs = tt
+
+returns : tie.Need-returns
+unfolding verdict is-end
+returns c =
+    simp
+    (le-leb 64 _ (c .before .if1 .taken))
+    (c .refuse .ensures)
+
+refuse-requires-2 : tie.Need-refuse-requires-2
+refuse-requires-2 c κs = tt
+
+returns-2 : tie.Need-returns-2
+unfolding verdict is-end
+returns-2 c =
+    simp (
+      lt-leb 64 _ (c .before .before .if1 .left),
+      le-leb 64 _ (c .before .if2 .taken),
+    )
+    (c .refuse2 .ensures)
+
+refuse-requires-3 : tie.Need-refuse-requires-3
+refuse-requires-3 c κs = tt
+
+returns-3 : tie.Need-returns-3
+unfolding verdict is-end
+returns-3 c =
+    simp (
+      lt-leb 64 _ (c .before .before .before .if1 .left),
+      lt-leb 64 _ (c .before .before .if2 .left),
+      lt-ltb _ 2 (c .before .if3 .taken),
+    )
+    (c .refuse3 .ensures)
+
+refuse-requires-4 : tie.Need-refuse-requires-4
+refuse-requires-4 c κs = tt
+
+returns-4 : tie.Need-returns-4
+unfolding verdict is-end
+returns-4 c =
+    simp (
+      lt-leb 64 _ (c .before .before .before .before .if1 .left),
+      lt-leb 64 _ (c .before .before .before .if2 .left),
+      le-ltb _ 2 (c .before .before .if3 .left),
+      lt-ltb _ 2 (c .before .if4 .taken),
+    )
+    (c .refuse4 .ensures)
+
+refuse-requires-5 : tie.Need-refuse-requires-5
+refuse-requires-5 c κs = tt
+
+returns-5 : tie.Need-returns-5
+unfolding verdict is-end
+returns-5 c =
+    simp (
+      lt-leb 64 _ (c .before .before .before .before .before .if1 .left),
+      lt-leb 64 _ (c .before .before .before .before .if2 .left),
+      le-ltb _ 2 (c .before .before .before .if3 .left),
+      le-ltb _ 2 (c .before .before .if4 .left),
+      eq-eqb _ _ (c .before .if5 .taken),
+    )
+    (c .refuse5 .ensures)
+
+is-present-requires : tie.Need-is-present-requires
+is-present-requires c κs = tt
+
+refuse-requires-6 : tie.Need-refuse-requires-6
+refuse-requires-6 c κs = tt
+
+returns-6 : tie.Need-returns-6
+unfolding verdict is-end
+returns-6 c =
+    simp (
+      lt-leb 64 _ (c .before .before .before .before .before .before .before .if1 .left),
+      lt-leb 64 _ (c .before .before .before .before .before .before .if2 .left),
+      le-ltb _ 2 (c .before .before .before .before .before .if3 .left),
+      le-ltb _ 2 (c .before .before .before .before .if4 .left),
+      ne-eqb _ _ (c .before .before .before .if5 .left),
+      sym (c .before .before .is-present .ensures) ∙ (not-true _ (c .before .if6 .taken)),
+    )
+    (c .refuse6 .ensures)
+
+is-present-requires-2 : tie.Need-is-present-requires-2
+is-present-requires-2 c κs = tt
+
+refuse-requires-7 : tie.Need-refuse-requires-7
+refuse-requires-7 c κs = tt
+
+returns-7 : tie.Need-returns-7
+unfolding verdict is-end
+returns-7 c =
+    simp (
+      lt-leb 64 _ (c .before .before .before .before .before .before .before .before .before .if1 .left),
+      lt-leb 64 _ (c .before .before .before .before .before .before .before .before .if2 .left),
+      le-ltb _ 2 (c .before .before .before .before .before .before .before .if3 .left),
+      le-ltb _ 2 (c .before .before .before .before .before .before .if4 .left),
+      ne-eqb _ _ (c .before .before .before .before .before .if5 .left),
+      sym (c .before .before .before .before .is-present .ensures) ∙ (not-false _ (c .before .before .before .if6 .left)),
+      sym (c .before .before .is-present2 .ensures) ∙ (not-true _ (c .before .if7 .taken)),
+    )
+    (c .refuse7 .ensures)
+
+returns-8 : tie.Need-returns-8
+unfolding verdict is-end read-verdict
+returns-8 c =
+    simp (
+      lt-leb 64 _ (c .before .before .before .before .before .before .before .before .if1 .left),
+      lt-leb 64 _ (c .before .before .before .before .before .before .before .if2 .left),
+      le-ltb _ 2 (c .before .before .before .before .before .before .if3 .left),
+      le-ltb _ 2 (c .before .before .before .before .before .if4 .left),
+      ne-eqb _ _ (c .before .before .before .before .if5 .left),
+      sym (c .before .before .before .is-present .ensures) ∙ not-false _ (c .before .before .if6 .left),
+      sym (c .before .is-present2 .ensures) ∙ not-false _ (c .if7 .left),
+    )
+
+pub judge-two-roles-spec : {M : Type 1} → statement M
+judge-two-roles-spec =
+    tie.close
+    (tie.spec
+    refuse-requires
+    returns
+    refuse-requires-2
+    returns-2
+    refuse-requires-3
+    returns-3
+    refuse-requires-4
+    returns-4
+    refuse-requires-5
+    returns-5
+    is-present-requires
+    refuse-requires-6
+    returns-6
+    is-present-requires-2
+    refuse-requires-7
+    returns-7
+    returns-8)

@@ -1,0 +1,74 @@
+-- `graph::searching::circle_in` meets its contract: it searches the juniors for one that a senior is or lies below.
+-- Assumes nothing.
+use borrow.Author.Needs.{needs}
+use mathlib.Core.Bool.{Bool, _&&_}
+use mathlib.Core.Path.{_∙_, sym}
+use Prim.Native.Nat.{ℕ}
+use Rattle.sets.specs.Counting.{any}
+use Rattle.sets.specs.Sets.{member}
+use Rattle.graph.specs.Graph.{Graph, role-count}
+use Rattle.graph.specs.Refusing.{at-or-below}
+use Rattle.graph.specs.Reading.{drawn-from}
+use Rattle.graph.proofs.Searches.{Search, starts, visit-lt, hit, goes-on, falls, miss}
+use Rattle.graph.proofs.searching.circle_in.Statement.{statement}
+use Rattle.graph.proofs.searching.circle_in.Tie as tie
+
+-- Some senior is j or lies below it.
+abbrev circle : Graph → ℕ → ℕ → Bool
+circle g seniors j = any role-count (λ s. member s seniors && at-or-below g s j)
+
+abbrev Inv-loop : tie.InvT-loop
+Inv-loop roles sets juniors seniors rest₀ rest = Search role-count (circle (drawn-from roles sets) seniors) juniors rest
+
+abbrev μ-loop : tie.MeasureT-loop
+μ-loop roles sets juniors seniors rest₀ rest = rest
+
+loop-holds : tie.Need-loop-holds Inv-loop μ-loop
+loop-holds c = starts role-count _ _ (search needs)
+
+lowest-role-requires : tie.Need-lowest-role-requires Inv-loop μ-loop
+lowest-role-requires c κs = tt
+
+cast-i : tie.Need-cast-i Inv-loop μ-loop
+cast-i c = let l = visit-lt (c .before .before .loop .inv) (c .before .loop-test .taken) (c .lowest-role .ensures) in search needs
+
+circle-at-requires : tie.Need-circle-at-requires Inv-loop μ-loop
+circle-at-requires c κs = tt
+
+returns : tie.Need-returns Inv-loop μ-loop
+returns c =
+    let b = c .before .before in
+    hit (b .before .before .loop .inv) (b .before .loop-test .taken) (b .lowest-role .ensures) (sym (c .before .circle-at .ensures) ∙ c .if1 .taken)
+
+without-lowest-requires : tie.Need-without-lowest-requires Inv-loop μ-loop
+without-lowest-requires c κs = tt
+
+loop-less : tie.Need-loop-less Inv-loop μ-loop
+loop-less c =
+    let b = c .before .before .before in
+    falls (b .before .before .loop .inv) (b .before .loop-test .taken) (b .lowest-role .ensures) (c .without-lowest .ensures)
+
+loop-again : tie.Need-loop-again Inv-loop μ-loop
+loop-again c =
+    let b = c .before .before .before in
+    goes-on (b .before .before .loop .inv) (b .before .loop-test .taken) (b .lowest-role .ensures) (c .without-lowest .ensures)
+    (sym (c .before .before .circle-at .ensures) ∙ c .before .if1 .left)
+
+returns-2 : tie.Need-returns-2 Inv-loop μ-loop
+returns-2 c = miss (c .before .loop .inv) (c .loop-test .left)
+
+pub circle-in-spec : {M : Type 1} → statement M
+circle-in-spec =
+    tie.close
+    (tie.spec
+    Inv-loop
+    μ-loop
+    loop-holds
+    lowest-role-requires
+    cast-i
+    circle-at-requires
+    returns
+    without-lowest-requires
+    loop-less
+    loop-again
+    returns-2)

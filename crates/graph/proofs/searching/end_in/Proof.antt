@@ -1,0 +1,31 @@
+-- `graph::searching::end_in` meets its contract: the end roles are the members of 3.
+-- Assumes nothing.
+use mathlib.Core.Bool.{Bool, _&&_}
+use mathlib.Core.Path.{_≡_, ap, _∙_}
+use Prim.Native.Nat.{ℕ}
+use Rattle.sets.specs.Counting.{lowest}
+use Rattle.sets.specs.Sets.{member, intersection, lowest-member}
+use Rattle.sets.proofs.Counting.{lowest-cong}
+use Rattle.sets.proofs.Laws.{member-intersection}
+use Rattle.graph.specs.Graph.{role-count, is-end}
+use Rattle.graph.proofs.Drawings.{member-ends}
+use Rattle.graph.proofs.searching.end_in.Statement.{statement}
+use Rattle.graph.proofs.searching.end_in.Tie as tie
+
+intersection-requires : tie.Need-intersection-requires
+intersection-requires c κs = tt
+
+lowest-role-requires : tie.Need-lowest-role-requires
+lowest-role-requires c κs = tt
+
+lowest-end : (s : ℕ) → lowest-member role-count (intersection 3 s) ≡ lowest role-count (λ n. is-end n && member n s)
+unfolding lowest-member
+lowest-end s =
+    lowest-cong role-count (λ n. member n (intersection 3 s)) (λ n. is-end n && member n s)
+    (λ n _. member-intersection n 3 s ∙ ap (λ (b : Bool). b && member n s) (member-ends n))
+
+returns : tie.Need-returns
+returns c = c .lowest-role .ensures ∙ ap (lowest-member role-count) (c .before .intersection .ensures) ∙ lowest-end (c .before .before .args .s)
+
+pub end-in-spec : {M : Type 1} → statement M
+end-in-spec = tie.close (tie.spec intersection-requires lowest-role-requires returns)

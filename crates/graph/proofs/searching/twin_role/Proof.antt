@@ -1,0 +1,91 @@
+-- `graph::searching::twin_role` meets its contract: it searches the ordinary roles for one with a twin, which stands among those left.
+-- Assumes nothing.
+use borrow.Author.Needs.{needs}
+use mathlib.Core.Path.{_∙_, sym}
+use Prim.Native.Nat.{_<_}
+use Rattle.sets.specs.Sets.{difference}
+use Rattle.sets.proofs.Laws.{difference-lt}
+use Rattle.graph.specs.Tables.{at}
+use Rattle.graph.specs.Graph.{role-count, effective}
+use Rattle.graph.specs.Refusing.{twin-role}
+use Rattle.graph.specs.Reading.{drawn-from}
+use Rattle.graph.proofs.Searches.{Search, starts, visit-lt, hit, goes-on, falls, miss, among-ordinary, has-twin, twin-test}
+use Rattle.graph.proofs.searching.twin_role.Statement.{statement}
+use Rattle.graph.proofs.searching.twin_role.Tie as tie
+
+abbrev Inv-loop : tie.InvT-loop
+Inv-loop roles sets rest₀ rest = Search role-count (has-twin (drawn-from roles sets)) (difference roles 3) rest
+
+abbrev μ-loop : tie.MeasureT-loop
+μ-loop roles sets rest₀ rest = rest
+
+ordinary-roles-requires : tie.Need-ordinary-roles-requires Inv-loop μ-loop
+ordinary-roles-requires c κs = tt
+
+loop-holds : tie.Need-loop-holds Inv-loop μ-loop
+loop-holds c = rw (c .ordinary-roles .ensures) (starts role-count _ _ (difference-lt role-count _ _ (search needs)))
+
+lowest-role-requires : tie.Need-lowest-role-requires Inv-loop μ-loop
+lowest-role-requires c κs = tt
+
+role-lt : (c : tie.After-lowest-role Inv-loop μ-loop) → c .lowest-role .result < role-count
+role-lt c = visit-lt (c .before .before .loop .inv) (c .before .loop-test .taken) (c .lowest-role .ensures)
+
+cast-i : tie.Need-cast-i Inv-loop μ-loop
+cast-i c = let l = role-lt c in search needs
+
+without-lowest-requires : tie.Need-without-lowest-requires Inv-loop μ-loop
+without-lowest-requires c κs = tt
+
+entry-requires : tie.Need-entry-requires Inv-loop μ-loop
+entry-requires c κs = tt
+
+has-set-requires : tie.Need-has-set-requires Inv-loop μ-loop
+has-set-requires c κs = tt
+
+returns : tie.Need-returns Inv-loop μ-loop
+unfolding effective twin-role
+returns c =
+    let b = c .before .before .before in
+    let s = b .before .before .before .loop .inv in
+    let some = b .before .before .loop-test .taken in
+    let e = b .before .lowest-role .ensures in
+    hit s some e (sym (twin-test _ s some e (b .without-lowest .ensures)) ∙ sym (c .before .has-set .ensures ∙ rw (c .before .before .entry .ensures)) ∙ c .if1 .taken)
+    ∙ among-ordinary _ _
+
+loop-less : tie.Need-loop-less Inv-loop μ-loop
+loop-less c =
+    let b = c .before .before .before in
+    falls (b .before .before .before .loop .inv) (b .before .before .loop-test .taken) (b .before .lowest-role .ensures) (b .without-lowest .ensures)
+
+loop-again : tie.Need-loop-again Inv-loop μ-loop
+unfolding effective
+loop-again c =
+    let b = c .before .before .before in
+    let s = b .before .before .before .loop .inv in
+    let some = b .before .before .loop-test .taken in
+    let e = b .before .lowest-role .ensures in
+    let d = b .without-lowest .ensures in
+    goes-on s some e d (sym (twin-test _ s some e d) ∙ sym (c .before .has-set .ensures ∙ rw (c .before .before .entry .ensures)) ∙ c .if1 .left)
+
+returns-2 : tie.Need-returns-2 Inv-loop μ-loop
+unfolding twin-role
+returns-2 c = miss (c .before .loop .inv) (c .loop-test .left) ∙ among-ordinary _ _
+
+pub twin-role-spec : {M : Type 1} → statement M
+twin-role-spec =
+    tie.close
+    (tie.spec
+    Inv-loop
+    μ-loop
+    ordinary-roles-requires
+    loop-holds
+    lowest-role-requires
+    cast-i
+    without-lowest-requires
+    entry-requires
+    has-set-requires
+    returns
+    loop-less
+    loop-again
+    returns-2)
