@@ -8,8 +8,8 @@ pub mod Heights
 pub mod Drawn
 pub mod Placing
 pub mod Edits
-pub mod Arrays
-pub mod Carrying
+pub mod Holding
+pub mod Closable
 pub mod Attempts
 pub mod Changes
 pub mod Adding

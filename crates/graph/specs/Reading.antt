@@ -1,15 +1,12 @@
--- How the code's values are read as the paper's: numbers, changes, verdicts and graphs.
+-- How the code's values are read as the paper's: sets, graphs, verdicts and changes.
 use mathlib.Core.List.{List, []}
 use Prim.Native.Nat.{ℕ}
 use Rattle.graph.specs.Graph.{Graph}
 use Rattle.graph.specs.Editing.{Change, add-by-place, add-by-privileges, remove-role, grant, withdraw, add-edge, remove-edge}
-use Rattle.graph.specs.Refusing.{Verdict, passed, refused, keep}
+use Rattle.graph.specs.Refusing.{Verdict, passed, refused}
 use Rattle.graph.specs.declared.PrivilegeSet as privilege-set-struct
-use Rattle.graph.specs.declared.Graph as graph-struct
 use Rattle.graph.specs.declared.Verdict as verdict-enum
 use Rattle.graph.specs.declared.Verdict.the-variants as verdicts
-use Rattle.graph.specs.declared.Outcome as outcome-struct
-use Rattle.graph.specs.declared.Attempt as attempt-struct
 use Rattle.graph.specs.declared.Change as change-enum
 use Rattle.graph.specs.declared.Change.the-variants as changes
 
@@ -25,10 +22,6 @@ drawn-from roles sets = record { roles = roles; sets = sets; conflicts = [] }
 abbrev pub graph-of : ℕ → List ℕ → List ℕ → Graph
 graph-of roles sets conflicts = record { roles = roles; sets = sets; conflicts = conflicts }
 
--- A graph as the code holds it.
-abbrev pub read-graph : graph-struct.Graph → Graph
-read-graph g = graph-of (g .roles) (g .sets) (g .conflicts)
-
 -- A verdict's number and place.
 unfoldable pub read-verdict : verdict-enum.Verdict → Verdict
 read-verdict verdicts.Passed = passed
@@ -43,11 +36,3 @@ read-change (changes.Grant a b) = grant (a .0) (b .0)
 read-change (changes.Withdraw a b) = withdraw (a .0) (b .0)
 read-change (changes.AddEdge a b) = add-edge (a .0) (b .0)
 read-change (changes.RemoveEdge a b) = remove-edge (a .0) (b .0)
-
--- What a call comes to: its verdict, and the graph after it.
-abbrev pub read-outcome : outcome-struct.Outcome → Verdict × Graph
-read-outcome o = (read-verdict (o .verdict), read-graph (o .graph))
-
--- What a change of g comes to before 26 to 30 are judged: its verdict, and the graph after it; a refused one leaves g.
-abbrev pub read-attempt : Graph → attempt-struct.Attempt → Verdict × Graph
-read-attempt g a = keep (read-verdict (a .verdict)) g (drawn-from (a .roles) (a .sets))

@@ -1,4 +1,4 @@
-// Conflicts of two privileges: whether one is declared, and kinds 8 and 9, which declare and lift one.
+// Conflicts of two privileges: whether one is declared, what refuses kinds 8 and 9, and the entry that each changes.
 ghost use mathlib.Core.Path.{_≡_};
 ghost use mathlib.Core.Bool.{cond};
 ghost use mathlib.Core.List.{[], _∷_};
@@ -7,17 +7,14 @@ ghost use lib.ListN.{set};
 ghost use lib.Dec.{ltb};
 ghost use Rattle.graph.specs.Graph.{privilege-count};
 ghost use Rattle.graph.specs.Conflicts as spec;
-ghost use Rattle.graph.specs.Refusing.{no-privilege-number, pair-of-one, verdict, keep, declare-checks, lift-checks};
-ghost use Rattle.graph.specs.Reading.{graph-of, read-graph, read-verdict, read-outcome};
+ghost use Rattle.graph.specs.Refusing.{no-privilege-number, pair-of-one, verdict, declare-checks, lift-checks};
+ghost use Rattle.graph.specs.Reading.{graph-of, read-verdict};
 use super::refusing::offered_role;
 use super::refusing::refuse;
 use crate::Entry;
-use crate::Graph;
-use crate::Outcome;
 use crate::Privilege;
 use crate::Verdict;
 use crate::table::entry;
-use crate::table::store;
 
 // The lower of two privileges.
 fn lower_of(a: Privilege, b: Privilege) -> usize
@@ -123,30 +120,4 @@ pub fn lifted(conflicts: &[u64], a: Privilege, b: Privilege) -> Entry
     let higher = higher_of(a, b);
     let set = sets::remove(entry(conflicts, number), higher);
     Entry { number, set }
-}
-
-// Kind 8: the conflict of a and b is declared.
-pub fn declare(mut graph: Graph, a: Privilege, b: Privilege) -> Outcome
-    ensures { λ r. let g = read-graph graph in ⌜ read-outcome r ≡ keep (verdict (declare-checks g (a .0) (b .0))) g (graph-of (graph .roles) (graph .sets) (spec.declare (graph .conflicts) (a .0) (b .0))) ⌝ }
-{
-    let verdict = judge_declare(graph.roles, &graph.sets, &graph.conflicts, a, b);
-    let Verdict::Passed = verdict else {
-        return Outcome { verdict, graph };
-    };
-    let entry = declared(&graph.conflicts, a, b);
-    store(&mut graph.conflicts, entry);
-    Outcome { verdict, graph }
-}
-
-// Kind 9: the conflict of a and b is lifted.
-pub fn lift(mut graph: Graph, a: Privilege, b: Privilege) -> Outcome
-    ensures { λ r. let g = read-graph graph in ⌜ read-outcome r ≡ keep (verdict (lift-checks g (a .0) (b .0))) g (graph-of (graph .roles) (graph .sets) (spec.lift (graph .conflicts) (a .0) (b .0))) ⌝ }
-{
-    let verdict = judge_lift(&graph.conflicts, a, b);
-    let Verdict::Passed = verdict else {
-        return Outcome { verdict, graph };
-    };
-    let entry = lifted(&graph.conflicts, a, b);
-    store(&mut graph.conflicts, entry);
-    Outcome { verdict, graph }
 }

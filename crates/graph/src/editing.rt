@@ -1,119 +1,144 @@
-// Changes of the graph, kinds 1 to 7: judged, carried out, and judged again after closing. Refusals 24 and 30 concern seats and are not here.
+// Kinds 1 to 7 as edits of a drawing that stands in two tables, the direct sets and the immediate juniors by role number. Each gives the roles after it.
 ghost use mathlib.Core.Path.{_≡_};
-ghost use lib.Dec.{ltb};
-ghost use Rattle.sets.specs.Sets as spec;
-ghost use Rattle.graph.specs.Graph as graph;
-ghost use Rattle.graph.specs.Editing.{changed};
-ghost use Rattle.graph.specs.Refusing.{passed, early, judged, keep};
-ghost use Rattle.graph.specs.Reading.{drawn-from, read-graph, read-change, read-attempt, read-outcome};
-use crate::Attempt;
+ghost use mathlib.Core.List.{List};
+ghost use Prim.Native.Nat.{ℕ};
+ghost use Rattle.sets.specs.Sets.{member, union, difference, when};
+ghost use Rattle.graph.specs.Tables.{at, table};
+ghost use Rattle.graph.specs.Graph.{Graph, role-count};
+ghost use Rattle.graph.specs.Drawing.{redraw};
+ghost use Rattle.graph.specs.Editing as spec;
+ghost use Rattle.graph.specs.Refusing.{passed, early};
+ghost use Rattle.graph.specs.Reading.{read-change};
+ghost use Rattle.graph.specs.Working.{Holds};
 use crate::Change;
-use crate::Graph;
-use crate::Outcome;
+use crate::Privilege;
 use crate::Role;
-use crate::Verdict;
-use crate::changing;
-use crate::checking;
-use crate::refusing;
+use crate::drawing::senior_roles;
+use crate::entries::exchange_all;
+use crate::entries::seniors_in;
+use crate::table::entry;
 
-// A change that nothing refused.
-fn done(roles: u64, sets: [u64; 64]) -> Attempt
-    ensures { λ r. ⌜ ((g : graph.Graph) → read-attempt g r ≡ (passed, drawn-from roles sets)) ⌝ }
+// Joins s to the direct set of each role of `to`.
+fn give(directs: &mut [u64; 64], to: u64, s: u64)
+    ensures { λ _. ⌜ now (directs .exit) ≡ table role-count (λ r. union (at (now (directs .entry)) r) (when (member r to) s)) ⌝ }
 {
-    let verdict = Verdict::Passed;
-    Attempt {
-        verdict,
-        roles,
-        sets,
-    }
+    exchange_all(directs, to, 0, s);
 }
 
-// The roles with one more.
-fn with_role(roles: u64, a: Role) -> u64
-    ensures { λ r. ⌜ r ≡ spec.union roles (spec.when (ltb (a .0) 64) (spec.single (a .0))) ⌝ }
+// Takes s out of the direct set of each role of `from`.
+fn take(directs: &mut [u64; 64], from: u64, s: u64)
+    ensures { λ _. ⌜ now (directs .exit) ≡ table role-count (λ r. difference (at (now (directs .entry)) r) (when (member r from) s)) ⌝ }
+{
+    exchange_all(directs, from, s, 0);
+}
+
+// Kind 1: edges from the juniors `under` to a and from a to the seniors `over`.
+fn add_by_place(
+    roles: u64,
+    directs: &mut [u64; 64],
+    juniors: &mut [u64; 64],
+    a: Role,
+    own: u64,
+    under: u64,
+    over: u64,
+) -> u64
+    ensures { λ r. let c = spec.add-by-place (a .0) own under over in ⌜ ((g : Graph) → Holds (redraw g) roles (now (directs .entry)) (now (juniors .entry)) → early g c ≡ passed → Holds (spec.edit c (redraw g)) r (now (directs .exit)) (now (juniors .exit))) ⌝ }
+{
+    let role = sets::single(a.0 as usize);
+    give(directs, role, own);
+    exchange_all(juniors, role, 0, under);
+    exchange_all(juniors, over, 0, role);
+    sets::union(roles, role)
+}
+
+// Kind 2: no edge is given.
+fn add_by_privileges(roles: u64, directs: &mut [u64; 64], a: Role, own: u64) -> u64
+    ensures { λ r. let c = spec.add-by-privileges (a .0) own in ⌜ ((g : Graph) (J : List ℕ) → Holds (redraw g) roles (now (directs .entry)) J → early g c ≡ passed → Holds (spec.edit c (redraw g)) r (now (directs .exit)) J) ⌝ }
+{
+    let role = sets::single(a.0 as usize);
+    give(directs, role, own);
+    sets::union(roles, role)
+}
+
+// Kind 3: every immediate junior joined to every immediate senior; with b 1 the direct privileges go to the seniors.
+fn remove_role(roles: u64, directs: &mut [u64; 64], juniors: &mut [u64; 64], a: Role, b: u8) -> u64
+    ensures { λ r. let c = spec.remove-role (a .0) b in ⌜ ((g : Graph) → Holds (redraw g) roles (now (directs .entry)) (now (juniors .entry)) → early g c ≡ passed → Holds (spec.edit c (redraw g)) r (now (directs .exit)) (now (juniors .exit))) ⌝ }
 {
     let i = a.0 as usize;
-    sets::insert(roles, i)
+    let role = sets::single(i);
+    let over = seniors_in(senior_roles(roles), juniors, i);
+    let own = entry(directs, i);
+    give(directs, over, sets::when(b == 1, own));
+    take(directs, role, own);
+    let under = entry(juniors, i);
+    exchange_all(juniors, over, role, under);
+    exchange_all(juniors, role, under, 0);
+    sets::difference(roles, role)
 }
 
-// The roles without one.
-fn without_role(roles: u64, a: Role) -> u64
-    ensures { λ r. ⌜ r ≡ spec.difference roles (spec.when (ltb (a .0) 64) (spec.single (a .0))) ⌝ }
+// Kind 4.
+fn grant(roles: u64, directs: &mut [u64; 64], a: Role, b: Privilege) -> u64
+    ensures { λ r. let c = spec.grant (a .0) (b .0) in ⌜ ((g : Graph) (J : List ℕ) → Holds (redraw g) roles (now (directs .entry)) J → early g c ≡ passed → Holds (spec.edit c (redraw g)) r (now (directs .exit)) J) ⌝ }
+{
+    let role = sets::single(a.0 as usize);
+    let privilege = sets::single(b.0 as usize);
+    give(directs, role, privilege);
+    roles
+}
+
+// Kind 5.
+fn withdraw(roles: u64, directs: &mut [u64; 64], a: Role, b: Privilege) -> u64
+    ensures { λ r. let c = spec.withdraw (a .0) (b .0) in ⌜ ((g : Graph) (J : List ℕ) → Holds (redraw g) roles (now (directs .entry)) J → early g c ≡ passed → Holds (spec.edit c (redraw g)) r (now (directs .exit)) J) ⌝ }
+{
+    let role = sets::single(a.0 as usize);
+    let privilege = sets::single(b.0 as usize);
+    take(directs, role, privilege);
+    roles
+}
+
+// Kind 6.
+fn add_edge(roles: u64, juniors: &mut [u64; 64], a: Role, b: Role) -> u64
+    ensures { λ r. let c = spec.add-edge (a .0) (b .0) in ⌜ ((g : Graph) (D : List ℕ) → Holds (redraw g) roles D (now (juniors .entry)) → early g c ≡ passed → Holds (spec.edit c (redraw g)) r D (now (juniors .exit))) ⌝ }
+{
+    let junior = sets::single(a.0 as usize);
+    let senior = sets::single(b.0 as usize);
+    exchange_all(juniors, senior, 0, junior);
+    roles
+}
+
+// Kind 7: a's juniors joined to b, and a to b's seniors.
+fn remove_edge(roles: u64, juniors: &mut [u64; 64], a: Role, b: Role) -> u64
+    ensures { λ r. let c = spec.remove-edge (a .0) (b .0) in ⌜ ((g : Graph) (D : List ℕ) → Holds (redraw g) roles D (now (juniors .entry)) → early g c ≡ passed → Holds (spec.edit c (redraw g)) r D (now (juniors .exit))) ⌝ }
 {
     let i = a.0 as usize;
-    sets::remove(roles, i)
+    let j = b.0 as usize;
+    let junior = sets::single(i);
+    let senior = sets::single(j);
+    let under = entry(juniors, i);
+    let over = seniors_in(senior_roles(roles), juniors, j);
+    exchange_all(juniors, senior, junior, under);
+    exchange_all(juniors, over, 0, junior);
+    roles
 }
 
-// The change carried out, where the checks before closing passed.
-fn carry_out(roles: u64, sets: &[u64], change: Change) -> Attempt
-    requires { ⌜ early (drawn-from roles (now sets)) (read-change change) ≡ passed ⌝ }
-    ensures { λ r. let g = drawn-from roles (now (sets .entry)) in ⌜ read-attempt g r ≡ (passed, changed g (read-change change)) ⌝ }
+// The edit of each kind.
+pub(crate) fn edit(
+    roles: u64,
+    directs: &mut [u64; 64],
+    juniors: &mut [u64; 64],
+    change: Change,
+) -> u64
+    ensures { λ r. let c = read-change change in ⌜ ((g : Graph) → Holds (redraw g) roles (now (directs .entry)) (now (juniors .entry)) → early g c ≡ passed → Holds (spec.edit c (redraw g)) r (now (directs .exit)) (now (juniors .exit))) ⌝ }
 {
     match change {
-        Change::AddByPlace(a, own, juniors, seniors) => {
-            let after = changing::placed(roles, sets, a, own, juniors, seniors);
-            done(with_role(roles, a), after)
+        Change::AddByPlace(a, own, under, over) => {
+            add_by_place(roles, directs, juniors, a, own, under, over)
         }
-        Change::AddByPrivileges(a, own) => {
-            let after = changing::added(roles, sets, a, own);
-            done(with_role(roles, a), after)
-        }
-        Change::RemoveRole(a, b) => {
-            let after = changing::removed(roles, sets, a, b);
-            done(without_role(roles, a), after)
-        }
-        Change::Grant(a, b) => done(roles, changing::granted(roles, sets, a, b)),
-        Change::Withdraw(a, b) => done(roles, changing::withdrawn(roles, sets, a, b)),
-        Change::AddEdge(a, b) => done(roles, changing::linked(roles, sets, a, b)),
-        Change::RemoveEdge(a, b) => done(roles, changing::unlinked(roles, sets, a, b)),
-    }
-}
-
-// Refusals 2 to 5 and 20 to 25 but for 24; where none comes, the roles and sets after the change; otherwise those fields say nothing.
-pub fn attempt(roles: u64, sets: &[u64], change: Change) -> Attempt
-    ensures { λ r. let g = drawn-from roles (now (sets .entry)) in ⌜ read-attempt g r ≡ keep (early g (read-change change)) g (changed g (read-change change)) ⌝ }
-{
-    let verdict = checking::judge(roles, sets, change);
-    match verdict {
-        Verdict::Passed => carry_out(roles, sets, change),
-        Verdict::Refused(_) => Attempt {
-            verdict,
-            roles,
-            sets: [0u64; 64],
-        },
-    }
-}
-
-// A change by the graph alone: on refusal the graph comes back as it was.
-pub fn change(graph: Graph, change: Change) -> Outcome
-    ensures { λ r. ⌜ read-outcome r ≡ keep (judged (read-graph graph) (read-change change)) (read-graph graph) (changed (read-graph graph) (read-change change)) ⌝ }
-{
-    let tried = attempt(graph.roles, &graph.sets, change);
-    let first = tried.verdict;
-    match first {
-        Verdict::Refused(_) => Outcome {
-            verdict: first,
-            graph,
-        },
-        Verdict::Passed => {
-            let roles = tried.roles;
-            let sets = tried.sets;
-            let conflicts = graph.conflicts;
-            let verdict = refusing::judge_closed(roles, &sets, &conflicts, change);
-            match verdict {
-                Verdict::Refused(_) => Outcome { verdict, graph },
-                Verdict::Passed => {
-                    let after = Graph {
-                        roles,
-                        sets,
-                        conflicts,
-                    };
-                    Outcome {
-                        verdict,
-                        graph: after,
-                    }
-                }
-            }
-        }
+        Change::AddByPrivileges(a, own) => add_by_privileges(roles, directs, a, own),
+        Change::RemoveRole(a, b) => remove_role(roles, directs, juniors, a, b),
+        Change::Grant(a, b) => grant(roles, directs, a, b),
+        Change::Withdraw(a, b) => withdraw(roles, directs, a, b),
+        Change::AddEdge(a, b) => add_edge(roles, juniors, a, b),
+        Change::RemoveEdge(a, b) => remove_edge(roles, juniors, a, b),
     }
 }

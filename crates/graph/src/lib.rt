@@ -1,10 +1,10 @@
 // The role graph with its conflicts: drawing, closing, the edits of kinds 1 to 9 and their refusals.
-mod changing;
+pub mod changing;
 pub mod checking;
 mod close;
 pub mod declaring;
 pub mod drawing;
-pub mod editing;
+mod editing;
 mod entries;
 pub mod privileges;
 pub mod refusing;
@@ -19,13 +19,6 @@ pub struct Privilege(pub u8);
 // A set of privileges.
 pub struct PrivilegeSet {
     pub word: u64,
-}
-
-// The ordinary roles present, each role's effective set, and under each privilege the higher ones in conflict with it.
-pub struct Graph {
-    pub roles: u64,
-    pub sets: [u64; 64],
-    pub conflicts: [u64; 64],
 }
 
 // One entry of a table of sets; the number 64 stands for none.
@@ -46,12 +39,6 @@ pub enum Verdict {
     Refused(Refusal),
 }
 
-// What a call comes to: its verdict, and the graph after it.
-pub struct Outcome {
-    pub verdict: Verdict,
-    pub graph: Graph,
-}
-
 // A change of the graph, kinds 1 to 7, with the fields that the kind names.
 pub enum Change {
     // role, direct set, juniors, seniors
@@ -67,9 +54,8 @@ pub enum Change {
     RemoveEdge(Role, Role),
 }
 
-// What a change comes to before 26 to 30 are judged: its verdict, and where it passed the roles and sets after it.
+// What a change comes to before 26 to 30 are judged: its verdict, and the roles after it.
 pub struct Attempt {
     pub verdict: Verdict,
     pub roles: u64,
-    pub sets: [u64; 64],
 }

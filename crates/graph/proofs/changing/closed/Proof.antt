@@ -3,7 +3,7 @@
 use mathlib.Core.Path.{_∙_}
 use borrow.Author.Needs.{needs}
 use Rattle.graph.specs.Tables.{at}
-use Rattle.graph.proofs.Arrays.{closable, closed-tables}
+use Rattle.graph.proofs.Closable.{closable, closed-tables}
 use Rattle.graph.proofs.changing.closed.Statement.{statement}
 use Rattle.graph.proofs.changing.closed.Tie as tie
 
@@ -27,15 +27,15 @@ unfolding at
 close-requires c κs =
     let p = c .before .before .before .before in
     rw (c .before .senior-roles .ensures, c .before .before .union .ensures, c .before .before .before .ordinary-roles .ensures)
-    (closable (p .args .roles) (search needs) (p .args .juniors) (p .pre .0) (p .pre .1))
+    (closable (search needs) (p .pre .1))
 
 returns : tie.Need-returns
 unfolding at
-returns c =
+returns c d h =
     let p = c .before .before .before .before .before in
     c .close .ensures
     ∙ rw (c .before .before .before .union .ensures, c .before .before .before .before .ordinary-roles .ensures)
-    (closed-tables (p .args .roles) (search needs) (p .args .juniors) (p .pre .0) (p .pre .1) (p .args .directs .now))
+    (closed-tables (search needs) h)
 
 pub closed-spec : {M : Type 1} → statement M
 closed-spec =
