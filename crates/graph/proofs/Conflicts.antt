@@ -25,10 +25,6 @@ module _ (C : List ℕ) where
   unfolding conflict
   conflict-parts p q t = let (l, m) = both (ltb p q) (member q (at C p)) t in (ltb→lt p q l, m)
 
-  pub conflict-join : (p q : ℕ) → p < q → T (member q (at C p)) → T (conflict C p q)
-  unfolding conflict
-  conflict-join p q l m = join (ltb p q) (member q (at C p)) (lt→ltb p q l) m
-
   pub pair-found : (s : ℕ) → T (holds-pair C s) → (p : ℕ) × (q : ℕ) × T (member p s) × T (member q s) × T (conflict C p q)
   unfolding holds-pair
   pair-found s t =

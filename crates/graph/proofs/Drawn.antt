@@ -117,9 +117,6 @@ module _ (g : Graph) (w : Formed g) where
       back (t, x, inl e) = subst (λ (i : ℕ). T (member p (effective g i))) e (in-direct g p t x)
       back (t, x, inr q) = below-member t r p (path-iff-below g (w .roles-lt) t r .0 q) (in-direct g p t x)
 
-  pub absent-empty : (r : ℕ) → (T (present g r) → ⊥) → effective g r ≡ 0
-  absent-empty r n = no-members privilege-count (effective g r) (effective-lt r) (λ p u. n (w .held p r u .0))
-
   -- Beyond the last role number nothing is held.
   pub beyond-empty : (r : ℕ) → role-count ≤ r → effective g r ≡ 0
   unfolding effective

@@ -10,7 +10,9 @@ pub mod Heights
 pub mod Drawn
 pub mod Placing
 pub mod Edits
-pub mod Arrays
+pub mod Holding
+pub mod Closable
+pub mod Attempts
 pub mod Changes
 pub mod Adding
 pub mod Drawings

@@ -13,8 +13,3 @@ use Rattle.graph.proofs.Tables.{at-replicate}
 pub whole-sets : (l : List ℕ) → length l ≡ role-count → length (sets-in l) ≡ role-count
 unfolding sets-in
 whole-sets l e = e
-
--- Empty words hold empty sets.
-pub empty-sets : (r : ℕ) → at (sets-in (replicate 64 0)) r ≡ 0
-unfolding sets-in
-empty-sets r = at-replicate 64 r

@@ -1,9 +1,9 @@
--- How the code's values are read as the paper's: numbers, changes, verdicts and graphs.
+-- How the code's values are read as the paper's: sets, graphs, verdicts and changes.
 use mathlib.Core.List.{List, []}
 use Prim.Native.Nat.{ℕ}
 use Rattle.graph.specs.Graph.{Graph}
 use Rattle.graph.specs.Editing.{Change, add-by-place, add-by-privileges, remove-role, grant, withdraw, add-edge, remove-edge}
-use Rattle.graph.specs.Refusing.{Verdict, passed, refused, keep}
+use Rattle.graph.specs.Refusing.{Verdict, passed, refused}
 use Rattle.graph.specs.declared.PrivilegeSet as privilege-set-struct
 use Rattle.graph.specs.declared.Verdict as verdict-enum
 use Rattle.graph.specs.declared.Verdict.the-variants as verdicts

@@ -11,10 +11,7 @@ use Rattle.graph.specs.Tables.{at, table}
 use Rattle.graph.specs.Graph.{role-count, max-role, is-end}
 use Rattle.graph.specs.Drawing.{Drawing}
 use Rattle.graph.specs.Closing.{gathered}
-
--- A drawing whose direct privileges and juniors stand in tables by role number.
-abbrev pub drawing-of : ℕ → List ℕ → List ℕ → Drawing
-drawing-of roles directs juniors = record { roles = roles; directs = at directs; joins = λ t r. member t (at juniors r) }
+use Rattle.graph.specs.Invariants.{Table}
 
 -- Sets less those of immediate juniors, by a table of these: each role of `all` loses what its juniors have, and any other role keeps its set.
 unfoldable pub less-juniors : ℕ → List ℕ → List ℕ → List ℕ
@@ -32,6 +29,15 @@ pub record JoinsLaid (R : ℕ) (joins : ℕ → ℕ → Bool) : Type 0 where
   pub top : (t : ℕ) → T (member t R) → 2 ≤ t → height t < height max-role
   pub joins-from : (t r : ℕ) → T (joins t r) → T (has-role R t)
   pub joins-to : (t r : ℕ) → T (joins t r) → T (has-role R r) × (1 ≤ r)
+
+-- Tables that hold a drawing without a circle: its roles, by role number the direct sets, and by senior the immediate juniors.
+pub record Holds (d : Drawing) (roles : ℕ) (directs juniors : List ℕ) : Type 0 where
+  pub same-roles : roles ≡ d .roles
+  pub whole : length directs ≡ role-count
+  pub table : Table role-count role-count juniors
+  pub same-directs : (r : ℕ) → r < role-count → at directs r ≡ d .directs r
+  pub same-joins : (t r : ℕ) → t < role-count → r < role-count → member t (at juniors r) ≡ d .joins t r
+  pub no-circle : JoinsLaid (d .roles) (d .joins)
 
 -- ---- closing under way
 -- Every way down from r along juniors has at most n roles.

@@ -3,7 +3,7 @@ use crate::ALL_ROLES;
 use crate::PrivilegeSet;
 use crate::privileges;
 use crate::table::SetTable;
-use crate::table::copied;
+use crate::table::copied_sets;
 use crate::table::entry;
 use crate::table::roles_at;
 use crate::table::store;
@@ -81,7 +81,7 @@ pub(crate) fn close(present: u64, directs: &SetTable, juniors: &[u64; 64]) -> Se
     requires { ⌜ Acyclic present (now juniors) ⌝ }
     ensures { λ r. ⌜ sets-in r ≡ table role-count (gathered (at (sets-in (now (directs .entry)))) (λ t r. spec.member t (at (now (juniors .entry)) r)) role-count) ⌝ }
 {
-    let mut sets = copied(directs);
+    let mut sets = copied_sets(directs);
     let mut done = sets::difference(ALL_ROLES, present);
     let mut rest = present;
     while rest != 0 {

@@ -1,8 +1,9 @@
 // The role graph with its conflicts: drawing, closing, the edits of kinds 1 to 9 and their refusals.
+pub mod changing;
 mod close;
 pub mod declaring;
 pub mod drawing;
-mod entries;
+mod editing;
 pub mod privileges;
 pub mod refusing;
 pub mod searching;
@@ -59,4 +60,10 @@ pub enum Change {
     // junior, senior
     AddEdge(Role, Role),
     RemoveEdge(Role, Role),
+}
+
+// What a change comes to before 26 to 30 are judged: its verdict, and the roles after it.
+pub struct Attempt {
+    pub verdict: Verdict,
+    pub roles: u64,
 }

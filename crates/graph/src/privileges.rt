@@ -14,6 +14,15 @@ pub fn empty() -> PrivilegeSet
     PrivilegeSet { word: 0 }
 }
 
+// The set whose only member is p; for a number that is no privilege's the empty set.
+pub fn single(p: Privilege) -> PrivilegeSet
+    ensures { λ r. ⌜ read-set r ≡ spec.when (ltb (p .0) privilege-count) (spec.single (p .0)) ⌝ }
+{
+    PrivilegeSet {
+        word: sets::single(p.0 as usize),
+    }
+}
+
 // Whether the privilege is a member of s.
 pub fn member(p: Privilege, s: PrivilegeSet) -> bool
     ensures { λ r. ⌜ r ≡ spec.member (p .0) (read-set s) ⌝ }

@@ -1,7 +1,8 @@
 // Tables by number. A table of privilege sets is reached by these functions alone, whatever words it takes; a table of role sets has a word an entry.
 ghost use mathlib.Core.Path.{_≡_};
 ghost use lib.ListN.{length, set};
-ghost use Rattle.sets.specs.Sets.{member, gather};
+ghost use mathlib.Core.Bool.{_&&_};
+ghost use Rattle.sets.specs.Sets.{member, union, difference, when, collect, gather};
 ghost use Rattle.graph.specs.Graph.{role-count};
 ghost use Rattle.graph.specs.Tables as spec;
 ghost use Rattle.graph.specs.Reading.{read-set, sets-in};
@@ -46,7 +47,7 @@ pub fn union_at(table: &[u64], all: u64) -> PrivilegeSet
 }
 
 // The table of privilege sets itself, with its length.
-pub(crate) fn copied(table: &SetTable) -> SetTable
+pub(crate) fn copied_sets(table: &SetTable) -> SetTable
     ensures { λ v. ⌜ (v ≡ now (table .entry)) × (length (sets-in v) ≡ role-count) ⌝ }
 {
     let _whole = &table[..];
@@ -69,4 +70,60 @@ pub fn roles_at(table: &[u64], n: usize) -> u64
     ensures { λ v. ⌜ v ≡ spec.at (now (table .entry)) n ⌝ }
 {
     if n < table.len() { table[n] } else { 0 }
+}
+
+// In the set of each role of `into`, takes the members of `out` away and joins those of `put`.
+pub(crate) fn exchange_sets(table: &mut SetTable, into: u64, out: PrivilegeSet, put: PrivilegeSet)
+    ensures { λ _. ⌜ sets-in (now (table .exit)) ≡ spec.table role-count (λ r. union (difference (spec.at (sets-in (now (table .entry))) r) (when (member r into) (read-set out))) (when (member r into) (read-set put))) ⌝ }
+{
+    *table = copied_sets(table);
+    let mut rest = into;
+    while rest != 0 {
+        let r = sets::lowest_member(rest) as usize;
+        let old = entry(table, r);
+        store(
+            table,
+            r,
+            privileges::union(privileges::difference(old, out), put),
+        );
+        rest = sets::without_lowest(rest);
+    }
+}
+
+// The table of role sets itself, with its length.
+fn copied_roles(table: &[u64; 64]) -> [u64; 64]
+    ensures { λ v. ⌜ (v ≡ now (table .entry)) × (length v ≡ role-count) ⌝ }
+{
+    let _whole = &table[..];
+    *table
+}
+
+// In the entry of each role of `into`, takes the roles of `out` away and joins those of `put`.
+pub(crate) fn exchange_roles(table: &mut [u64; 64], into: u64, out: u64, put: u64)
+    ensures { λ _. ⌜ now (table .exit) ≡ spec.table role-count (λ r. union (difference (spec.at (now (table .entry)) r) (when (member r into) out)) (when (member r into) put)) ⌝ }
+{
+    *table = copied_roles(table);
+    let mut rest = into;
+    while rest != 0 {
+        let r = sets::lowest_member(rest) as usize;
+        table[r] = sets::union(sets::difference(table[r], out), put);
+        rest = sets::without_lowest(rest);
+    }
+}
+
+// The roles present that have a among their juniors.
+pub(crate) fn seniors_in(present: u64, juniors: &[u64; 64], a: usize) -> u64
+    ensures { λ r. ⌜ r ≡ collect role-count (λ r. member r present && member a (spec.at (now (juniors .entry)) r)) ⌝ }
+{
+    let mut seniors = 0u64;
+    let mut rest = present;
+    while rest != 0 {
+        let r = sets::lowest_member(rest) as usize;
+        seniors = sets::union(
+            seniors,
+            sets::when(sets::member(a, juniors[r]), sets::lowest_alone(rest)),
+        );
+        rest = sets::without_lowest(rest);
+    }
+    seniors
 }

@@ -21,7 +21,3 @@ module _ (n : ℕ) (present : ℕ → Bool) (below : ℕ → ℕ → Bool) (o : 
   unfolding rank
   rank-lt r s t =
       count-lt n (λ i. below i r) (λ i. below i s) (λ i l x. o .transitive i r s x t) r (o .bounded r (o .between-present r s t .0)) t (o .irreflexive r)
-
-  pub rank-bound : (r : ℕ) → r < n → rank n below r < n
-  unfolding rank
-  rank-bound r l = omega (arith, count-lt n (λ i. below i r) (λ i. true) (λ i k x. tt) r l tt (o .irreflexive r), count-all n)

@@ -15,8 +15,8 @@ Inv-loop present directs juniors sets₀ done₀ rest₀ sets done rest = Doing 
 abbrev μ-loop : tie.MeasureT-loop
 μ-loop present directs juniors sets₀ done₀ rest₀ sets done rest = rest
 
-copied-requires : tie.Need-copied-requires Inv-loop μ-loop
-copied-requires c κs = tt
+copied-sets-requires : tie.Need-copied-sets-requires Inv-loop μ-loop
+copied-sets-requires c κs = tt
 
 difference-requires : tie.Need-difference-requires Inv-loop μ-loop
 difference-requires c κs = tt
@@ -24,7 +24,7 @@ difference-requires c κs = tt
 loop-holds : tie.Need-loop-holds Inv-loop μ-loop
 loop-holds c =
     let p = c .before .before in
-    doing-none (p .pre) (p .fits .present .fits) (c .before .copied .ensures .1) (ap sets-in (c .before .copied .ensures .0)) (c .difference .ensures)
+    doing-none (p .pre) (p .fits .present .fits) (c .before .copied-sets .ensures .1) (ap sets-in (c .before .copied-sets .ensures .0)) (c .difference .ensures)
 
 lowest-member-requires : tie.Need-lowest-member-requires Inv-loop μ-loop
 lowest-member-requires c κs = tt
@@ -65,7 +65,7 @@ close-spec =
     (tie.spec
     Inv-loop
     μ-loop
-    copied-requires
+    copied-sets-requires
     difference-requires
     loop-holds
     lowest-member-requires

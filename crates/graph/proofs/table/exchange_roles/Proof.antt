@@ -1,4 +1,4 @@
--- `graph::entries::exchange_all` meets its contract: each turn changes the entry of one member more.
+-- `graph::table::exchange_roles` meets its contract: each turn changes the entry of one member more.
 -- Assumes nothing.
 use mathlib.Core.Path.{refl, ap, _∙_}
 use mathlib.Core.List.{List}
@@ -9,8 +9,8 @@ use Rattle.graph.specs.Tables.{at, table}
 use Rattle.graph.specs.Graph.{role-count}
 use Rattle.graph.proofs.Loops.{left-lowest, left-falls, Filling, filling-none, filling-next}
 use Rattle.graph.proofs.Stores.{filling-left, exchanged-done}
-use Rattle.graph.proofs.entries.exchange_all.Statement.{statement}
-use Rattle.graph.proofs.entries.exchange_all.Tie as tie
+use Rattle.graph.proofs.table.exchange_roles.Statement.{statement}
+use Rattle.graph.proofs.table.exchange_roles.Tie as tie
 
 abbrev Inv-loop : tie.InvT-loop
 Inv-loop table₀ into out put rest₀ table rest = Filling (λ r. union (difference (at table₀ r) out) put) (at table₀) into rest table
@@ -18,11 +18,11 @@ Inv-loop table₀ into out put rest₀ table rest = Filling (λ r. union (differ
 abbrev μ-loop : tie.MeasureT-loop
 μ-loop table₀ into out put rest₀ table rest = rest
 
-copied-requires : tie.Need-copied-requires Inv-loop μ-loop
-copied-requires c κs = tt
+copied-roles-requires : tie.Need-copied-roles-requires Inv-loop μ-loop
+copied-roles-requires c κs = tt
 
 loop-holds : tie.Need-loop-holds Inv-loop μ-loop
-loop-holds c = filling-none _ _ (c .before .before .args .into) _ (search needs) (c .copied .ensures .1) (λ i. refl)
+loop-holds c = filling-none _ _ (c .before .before .args .into) _ (search needs) (c .copied-roles .ensures .1) (λ i. refl)
 
 lowest-member-requires : tie.Need-lowest-member-requires Inv-loop μ-loop
 lowest-member-requires c κs = tt
@@ -73,16 +73,16 @@ loop-again c =
 returns : tie.Need-returns Inv-loop μ-loop
 returns c =
     let p = c .before .before .before .before .args in
-    exchanged-done (p .out) (p .put) (c .before .before .copied .result) (c .before .loop .inv) (c .loop-test .left)
-    ∙ ap (λ (old : List ℕ). table role-count (λ r. union (difference (at old r) (when (member r (p .into)) (p .out))) (when (member r (p .into)) (p .put)))) (c .before .before .copied .ensures .0)
+    exchanged-done (p .out) (p .put) (c .before .before .copied-roles .result) (c .before .loop .inv) (c .loop-test .left)
+    ∙ ap (λ (old : List ℕ). table role-count (λ r. union (difference (at old r) (when (member r (p .into)) (p .out))) (when (member r (p .into)) (p .put)))) (c .before .before .copied-roles .ensures .0)
 
-pub exchange-all-spec : {M : Type 1} → statement M
-exchange-all-spec =
+pub exchange-roles-spec : {M : Type 1} → statement M
+exchange-roles-spec =
     tie.close
     (tie.spec
     Inv-loop
     μ-loop
-    copied-requires
+    copied-roles-requires
     loop-holds
     lowest-member-requires
     cast-r

@@ -1,12 +1,12 @@
--- `graph::entries::seniors_in` meets its contract: each turn looks whether one role more has the junior.
+-- `graph::table::seniors_in` meets its contract: each turn looks whether one role more has the junior.
 -- Assumes nothing.
 use mathlib.Core.Path.{_∙_}
 use borrow.Author.Needs.{needs}
 use Rattle.sets.specs.Sets.{member}
 use Rattle.graph.specs.Tables.{at}
 use Rattle.graph.proofs.Loops.{left-lowest, left-falls, Collecting, collecting-none, collecting-next, collecting-done}
-use Rattle.graph.proofs.entries.seniors_in.Statement.{statement}
-use Rattle.graph.proofs.entries.seniors_in.Tie as tie
+use Rattle.graph.proofs.table.seniors_in.Statement.{statement}
+use Rattle.graph.proofs.table.seniors_in.Tie as tie
 
 abbrev Inv-loop : tie.InvT-loop
 Inv-loop present juniors a seniors₀ rest₀ seniors rest = Collecting (λ n. member a (at juniors n)) present rest seniors

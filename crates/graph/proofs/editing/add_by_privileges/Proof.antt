@@ -1,0 +1,28 @@
+-- `graph::editing::add_by_privileges` meets its contract: one role more, with its set as direct privileges.
+-- Assumes nothing.
+use borrow.Author.Needs.{needs}
+use Rattle.graph.specs.Reading.{read-set}
+use Rattle.graph.proofs.Holding.{add-by-privileges-holds}
+use Rattle.graph.proofs.editing.add_by_privileges.Statement.{statement}
+use Rattle.graph.proofs.editing.add_by_privileges.Tie as tie
+
+cast-single : tie.Need-cast-single
+cast-single c = search needs
+
+single-requires : tie.Need-single-requires
+single-requires c κs = tt
+
+give-requires : tie.Need-give-requires
+give-requires c κs = tt
+
+union-requires : tie.Need-union-requires
+union-requires c κs = tt
+
+returns : tie.Need-returns
+returns c g J h e =
+    let p = c .before .before .before .before .before .args in
+    add-by-privileges-holds g (search needs) h (p .a .0) (read-set (p .own)) (search needs) e (c .before .before .before .single .ensures) (c .before .give .ensures) (c .union .ensures)
+
+pub add-by-privileges-spec : {M : Type 1} → statement M
+add-by-privileges-spec =
+    tie.close (tie.spec cast-single single-requires give-requires union-requires returns)

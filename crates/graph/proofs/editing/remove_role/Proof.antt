@@ -1,0 +1,70 @@
+-- `graph::editing::remove_role` meets its contract: one role less; its juniors go to its seniors, and with b 1 its direct privileges too.
+-- Assumes nothing.
+use borrow.Author.Needs.{needs}
+use Rattle.graph.proofs.Holding.{remove-role-holds}
+use Rattle.graph.proofs.editing.remove_role.Statement.{statement}
+use Rattle.graph.proofs.editing.remove_role.Tie as tie
+
+cast-i : tie.Need-cast-i
+cast-i c = search needs
+
+single-requires : tie.Need-single-requires
+single-requires c κs = tt
+
+senior-roles-requires : tie.Need-senior-roles-requires
+senior-roles-requires c κs = tt
+
+seniors-in-requires : tie.Need-seniors-in-requires
+seniors-in-requires c κs = tt
+
+entry-requires : tie.Need-entry-requires
+entry-requires c κs = tt
+
+when-requires : tie.Need-when-requires
+when-requires c κs = tt
+
+give-requires : tie.Need-give-requires
+give-requires c κs = tt
+
+take-requires : tie.Need-take-requires
+take-requires c κs = tt
+
+roles-at-requires : tie.Need-roles-at-requires
+roles-at-requires c κs = tt
+
+exchange-roles-requires : tie.Need-exchange-roles-requires
+exchange-roles-requires c κs = tt
+
+exchange-roles-requires-2 : tie.Need-exchange-roles-requires-2
+exchange-roles-requires-2 c κs = tt
+
+difference-requires : tie.Need-difference-requires
+difference-requires c κs = tt
+
+returns : tie.Need-returns
+returns c g h e =
+    let u = c .before .before .before .before .before in
+    let t = u .before .before .before in
+    let d = t .before .before .before in
+    let s = d .before .before .before .before .before in
+    let p = s .before .before .before .before .before in
+    remove-role-holds g (p .fits .roles .fits) h (p .args .a .0) (p .args .b) e (s .before .before .before .single .ensures) (s .before .before .senior-roles .ensures) (s .seniors-in .ensures) (d .before .before .entry .ensures) (d .when .ensures)
+    (t .before .before .give .ensures) (t .take .ensures) (u .roles-at .ensures) (c .before .before .before .exchange-roles .ensures) (c .before .exchange-roles2 .ensures) (c .difference .ensures)
+
+pub remove-role-spec : {M : Type 1} → statement M
+remove-role-spec =
+    tie.close
+    (tie.spec
+    cast-i
+    single-requires
+    senior-roles-requires
+    seniors-in-requires
+    entry-requires
+    when-requires
+    give-requires
+    take-requires
+    roles-at-requires
+    exchange-roles-requires
+    exchange-roles-requires-2
+    difference-requires
+    returns)
