@@ -4,7 +4,7 @@ ghost use mathlib.Core.List.{[], _∷_};
 ghost use Rattle.graph.specs.Refusing.{verdict, no-role-number, end-role, role-absent};
 ghost use Rattle.graph.specs.Reading.{drawn-from, read-verdict};
 ghost use Rattle.seats.specs.Seats.{State};
-ghost use Rattle.seats.specs.Calls.{declare, lift, assign, unassign, refused, no-seat-number, perform};
+ghost use Rattle.seats.specs.Calls.{declare, lift, assign, unassign, no-seat-number, perform};
 ghost use Rattle.seats.specs.Reading.{state-of, read-answer, read-request, read-decision};
 use crate::Answer;
 use crate::Decision;

@@ -91,22 +91,6 @@ pub(crate) fn put_line(buffer: &mut [u8], i: usize, index: u64, answer: Answer) 
     tail(buffer, j, n, p)
 }
 
-// A record's line at the front of the buffer, or refusal 9 where the buffer is shorter.
-pub fn write_line(buffer: &mut [u8], index: u64, answer: Answer) -> Filled
-    ensures { λ r. ⌜ (read-filled r, now (buffer .exit)) ≡ fill 9 (line index (read-answer answer)) (now (buffer .entry)) ⌝ }
-{
-    let n = number_of(answer);
-    let p = place_of(answer);
-    if buffer.len() < width(index) + width(n) + width(p) + 3 {
-        return Filled::TooShort(Refusal {
-            number: 9,
-            place: 0,
-        });
-    }
-    let i = number(buffer, 0, index);
-    Filled::Written(tail(buffer, i, n, p))
-}
-
 // The last line at the front of the buffer, or refusal 9 where the buffer is shorter.
 pub fn write_end(buffer: &mut [u8], count: u64, edges: u64) -> Filled
     ensures { λ r. ⌜ (read-filled r, now (buffer .exit)) ≡ fill 9 (end-line count edges) (now (buffer .entry)) ⌝ }
