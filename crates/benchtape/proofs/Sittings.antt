@@ -17,7 +17,7 @@ use Rattle.seats.specs.Seats.{State, fresh}
 use Rattle.seats.specs.Tape.{records, fed, feed}
 use Rattle.seats.specs.Reading.{read-state, read-filled}
 use Rattle.seats.proofs.TapeRecords.{record-count, fed-none, fed-append}
-use Rattle.seats.proofs.Putting.{fill-written}
+use Rattle.seats.proofs.Written.{fill-written}
 use Rattle.seats.proofs.Feeding.{Told, feed-told}
 use Rattle.benchtape.specs.Sitting.{chunk-length, Within, standing, Answered, Reached, Proceeded}
 use Rattle.benchtape.specs.declared.Sitting.{Sitting}

@@ -2,9 +2,10 @@
 ghost use mathlib.Core.Path.{_≡_};
 ghost use Prim.Native.Nat.{_+_, _≤_};
 ghost use lib.ListN.{length};
+ghost use Rattle.seats.specs.Written.{Written};
 ghost use Rattle.seats.specs.Reading.{read-state};
-ghost use Rattle.boundary.specs.Block.{block-length, table-at, state-in, holding};
-ghost use Rattle.boundary.specs.Working.{Wrote, stored-at};
+ghost use Rattle.boundary.specs.Block.{table-length, block-length, table-at, state-in, holding};
+ghost use Rattle.boundary.specs.Working.{stored-at};
 use graph::Entry;
 use seats::State;
 
@@ -42,7 +43,7 @@ pub(crate) fn state_in(block: &[u64]) -> State
 // Writes a table, from a word on.
 pub(crate) fn put_table(block: &mut [u64], at: usize, table: &[u64; 64])
     requires { ⌜ at + 64 ≤ length (now block) ⌝ }
-    ensures { λ _. ⌜ Wrote (now (block .entry)) at (now (table .entry)) (now (block .exit)) ⌝ }
+    ensures { λ _. ⌜ Written (now (block .entry)) at (now (table .entry)) (now (block .exit)) (at + table-length) ⌝ }
 {
     let words = &table[..];
     for i in 0..64usize {

@@ -1,9 +1,7 @@
--- What the contracts of private functions speak of: the fields of a record by themselves, what refuses the removal of a role and any change after closing, and text put into a buffer.
+-- What the contracts of private functions speak of: the fields of a record by themselves, what refuses the removal of a role and any change after closing, and the end of a line.
 use mathlib.Core.List.{List, [], _∷_, _++_}
-use mathlib.Core.Path.{_≡_}
 use Prim.Native.Nat.{ℕ, _+_, _*_}
-use lib.ListN.{length, getD}
-use lib.Seq.{sets}
+use lib.ListN.{getD}
 use Rattle.graph.specs.Editing.{Change, add-by-place, add-by-privileges, remove-role, grant, withdraw, add-edge, remove-edge}
 use Rattle.graph.specs.Refusing.{Check, refuse-lowest, input-checks, state-checks, still-below, closed-checks}
 use Rattle.seats.specs.Seats.{State, seat-count, pair-seat}
@@ -36,8 +34,3 @@ after-checks h c = (still-below (h .graph) c ++ closed-checks (h .graph)) ++ (re
 -- Two numbers, each behind a space, and a line feed.
 abbrev pub tail-of : ℕ → ℕ → List ℕ
 tail-of x y = space ∷ (digits x ++ (space ∷ (digits y ++ (line-feed ∷ []))))
-
--- The text w put at place i of the buffer l leaves the buffer m, and j is the place behind the text.
-pub record Put (l : List ℕ) (i : ℕ) (w m : List ℕ) (j : ℕ) : Type 0 where
-  pub text : m ≡ sets l i w
-  pub next : j ≡ i + length w

@@ -13,6 +13,7 @@ pub mod seating;
 pub mod stepping;
 pub mod tape;
 pub mod text;
+mod writing;
 
 use graph::Change;
 use graph::Entry;

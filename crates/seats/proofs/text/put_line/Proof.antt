@@ -7,7 +7,8 @@ use mathlib.Core.List.{[]}
 use Rattle.seats.specs.Tape.{digits}
 use Rattle.seats.specs.Reading.{read-answer}
 use Rattle.seats.proofs.Digits.{width-word, width-byte}
-use Rattle.seats.proofs.Putting.{and-then, line-joined, length-joined}
+use Rattle.seats.proofs.Written.{and-then}
+use Rattle.seats.proofs.Lines.{line-joined, length-joined}
 use Rattle.seats.proofs.text.put_line.Statement.{statement}
 use Rattle.seats.proofs.text.put_line.Tie as tie
 
@@ -17,8 +18,8 @@ number-of-requires c κs = search needs
 place-of-requires : tie.Need-place-of-requires
 place-of-requires c κs = search needs
 
-number-requires : tie.Need-number-requires
-number-requires c κs =
+put-digits-requires : tie.Need-put-digits-requires
+put-digits-requires c κs =
     let s = c .before .before .before .before in
     omega (arith, width-word (s .args .index) (s .fits .index .fits))
 
@@ -41,9 +42,9 @@ returns c =
     let n = a .before .number-of in
     let p = a .place-of in
     let e = line-joined i (read-answer (s .args .answer)) (n .ensures .0) (p .ensures .0) in
-    let w = and-then (b .number .ensures) (d .tail .ensures) in
+    let w = and-then (b .put-digits .ensures) (d .tail .ensures) in
     let l = length-joined [] _ (digits i) (n .result) (p .result) refl in
-    let j = w .next in
+    let j = w .place in
     (rw e w, omega (arith, width-word i (s .fits .index .fits), width-byte (n .result) (n .ensures .1), width-byte (p .result) (p .ensures .1)))
 
 pub put-line-spec : {M : Type 1} → statement M
@@ -52,7 +53,7 @@ put-line-spec =
     (tie.spec
     number-of-requires
     place-of-requires
-    number-requires
+    put-digits-requires
     tail-requires
     same-length
     returns)

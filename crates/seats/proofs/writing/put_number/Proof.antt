@@ -1,20 +1,20 @@
--- `seats::saving::put_number` meets its contract: i bytes are written, and those of `rest` are left.
+-- `seats::writing::put_number` meets its contract: i bytes are written, and those of `rest` are left.
 -- Assumes nothing.
 use Prim.Native.Nat.{_≤_, _-_, _+_}
 use borrow.Author.Needs.{needs}
 use Rattle.seats.specs.Bytes.{bytes-of}
-use Rattle.seats.proofs.Writing.{Writing, writing-length, number-start, number-next, number-end}
-use Rattle.seats.proofs.saving.put_number.Statement.{statement}
-use Rattle.seats.proofs.saving.put_number.Tie as tie
+use Rattle.seats.proofs.Written.{Unwritten, unwritten-length, number-start, number-next, number-end}
+use Rattle.seats.proofs.writing.put_number.Statement.{statement}
+use Rattle.seats.proofs.writing.put_number.Tie as tie
 
 abbrev Inv-loop : tie.InvT-loop
-Inv-loop buffer₀ at n x rest₀ i₀ buffer rest i = (i ≤ n) × Writing buffer₀ at (bytes-of n x) buffer (at + i) (bytes-of (n - i) rest)
+Inv-loop buffer₀ at n x rest₀ i₀ buffer rest i = (i ≤ n) × Unwritten buffer₀ at (bytes-of n x) buffer (at + i) (bytes-of (n - i) rest)
 
 abbrev μ-loop : tie.MeasureT-loop
 μ-loop buffer₀ at n x rest₀ i₀ buffer rest i = n - i
 
 loop-holds : tie.Need-loop-holds Inv-loop μ-loop
-loop-holds c = (search needs, number-start _ _ _ _ (c .pre))
+loop-holds c = (search needs, number-start _ _ _ _)
 
 cast-buffer : tie.Need-cast-buffer Inv-loop μ-loop
 cast-buffer c = search needs
@@ -23,7 +23,7 @@ add-buffer : tie.Need-add-buffer Inv-loop μ-loop
 add-buffer c = search needs
 
 slice-write-buffer : tie.Need-slice-write-buffer Inv-loop μ-loop
-slice-write-buffer c = let l = writing-length (c .before .loop .inv .1) in search needs
+slice-write-buffer c = let l = unwritten-length (c .before .loop .inv .1) in search needs
 
 add-i : tie.Need-add-i Inv-loop μ-loop
 add-i c = search needs
@@ -38,7 +38,7 @@ add-result : tie.Need-add-result Inv-loop μ-loop
 add-result c = search needs
 
 same-length : tie.Need-same-length Inv-loop μ-loop
-same-length c = writing-length (c .before .loop .inv .1)
+same-length c = unwritten-length (c .before .loop .inv .1)
 
 returns : tie.Need-returns Inv-loop μ-loop
 returns c = number-end _ _ _ _ (c .loop-test .left) (c .before .loop .inv .0) (c .before .loop .inv .1)

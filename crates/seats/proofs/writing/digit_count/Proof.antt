@@ -1,4 +1,4 @@
--- `text::width` meets its contract. The invariant: the digits counted and those of what is left make one more than those of the number.
+-- `writing::digit_count` meets its contract. The invariant: the digits counted and those of what is left make one more than those of the number.
 -- Assumes nothing.
 use mathlib.Core.Path.{_≡_}
 use Prim.Native.Nat.{_+_}
@@ -6,8 +6,8 @@ use native.Mathlib.Omega.{arith}
 use lib.ListN.{length}
 use Rattle.seats.specs.Tape.{digits}
 use Rattle.seats.proofs.Digits.{width-small, width-large, width-word}
-use Rattle.seats.proofs.text.width.Statement.{statement}
-use Rattle.seats.proofs.text.width.Tie as tie
+use Rattle.seats.proofs.writing.digit_count.Statement.{statement}
+use Rattle.seats.proofs.writing.digit_count.Tie as tie
 
 abbrev Inv-loop : tie.InvT-loop
 Inv-loop x n₀ rest₀ n rest = n + length (digits rest) ≡ length (digits x) + 1
@@ -36,5 +36,5 @@ returns c =
     let b = c .before .loop .rest in
     omega (arith, width-small b (c .loop-test .left), width-word a (c .before .before .fits .x .fits))
 
-pub width-spec : {M : Type 1} → statement M
-width-spec = tie.close (tie.spec Inv-loop μ-loop loop-holds add-n loop-less loop-again returns)
+pub digit-count-spec : {M : Type 1} → statement M
+digit-count-spec = tie.close (tie.spec Inv-loop μ-loop loop-holds add-n loop-less loop-again returns)
