@@ -3,7 +3,7 @@
 use mathlib.Core.Bool.{Bool, true, false, cond, _&&_}
 use mathlib.Core.List.{List, [], _++_}
 use mathlib.Core.Path.{_≡_, refl, sym, ap, ap₂, _∙_, subst}
-use Prim.Native.Nat.{ℕ, min, _+_, _-_, _*_, _/_, _^_, _≤_, _<_}
+use Prim.Native.Nat.{ℕ, min, _+_, _-_, _*_, _^_, _≤_, _<_}
 use native.Mathlib.Omega.{arith}
 use lib.ListN.{length, take, drop, length-drop, drop-of-length-le}
 use lib.Dec.{T, leb, ltb, leb→le, ltb→lt}
@@ -14,9 +14,10 @@ use Rattle.seats.specs.Seats.{State}
 use Rattle.seats.specs.Calls.{Answer}
 use Rattle.seats.specs.Records.{record-length, step}
 use Rattle.seats.specs.Tape.{records, line, fed, longest-line, feed}
+use Rattle.seats.specs.Working.{record-count}
 use Rattle.seats.specs.Written.{Written}
 use Rattle.seats.proofs.Written.{written-length, Unwritten, unwritten-all, unwritten-length, unwritten-next, unwritten-none, filled, fill-written}
-use Rattle.seats.proofs.TapeRecords.{record-count, records-first, records-next, fed-none, fed-next}
+use Rattle.seats.proofs.TapeRecords.{count-records, records-first, records-next, fed-none, fed-next}
 
 -- Of a part fed from the state s₀ into the buffer l₀ after count records, what starts at `start` is left, for the buffer l from `place` on, after index records and from the state s.
 pub record Left (l₀ : List ℕ) (count : ℕ) (part : List ℕ) (s₀ : State) (l : List ℕ) (index place start : ℕ) (s : State) : Type 0 where
@@ -84,9 +85,9 @@ module _ (l₀ : List ℕ) (count : ℕ) (part : List ℕ) (s₀ : State) where
 -- ---- whether a part can be fed
 -- Where n is how many records the part has, and b whether so many can be fed.
 module _ (s : State) (count : ℕ) (part buffer : List ℕ) {b : Bool} {n : ℕ}
-    (can : b ≡ (leb (longest-line * n) (length buffer) && ltb (count + n) (2 ^ 64))) (counted : n ≡ (length part + 31) / record-length) where
+    (can : b ≡ (leb (longest-line * n) (length buffer) && ltb (count + n) (2 ^ 64))) (counted : n ≡ record-count (length part)) where
   tested : (leb (longest-line * length (records part)) (length buffer) && ltb (count + length (records part)) (2 ^ 64)) ≡ b
-  tested = ap (λ (n : ℕ). leb (longest-line * n) (length buffer) && ltb (count + n) (2 ^ 64)) (record-count part ∙ sym counted) ∙ sym can
+  tested = ap (λ (n : ℕ). leb (longest-line * n) (length buffer) && ltb (count + n) (2 ^ 64)) (count-records part ∙ sym counted) ∙ sym can
 
   -- They cannot, and nothing is done.
   pub feed-refused : b ≡ false → _≡_ {A = (Filled × List ℕ) × (ℕ × State)} ((too-short 9 0, buffer), (count, s)) (feed s count part buffer)

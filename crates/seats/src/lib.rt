@@ -1,4 +1,5 @@
 // Seats over the role graph: records and the calls they carry, asks, images, and the lines of a tape.
+pub mod answers;
 pub mod deciding;
 mod endian;
 mod layout;

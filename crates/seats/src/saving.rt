@@ -9,13 +9,12 @@ ghost use Rattle.sets.specs.Sets.{empty, size, collect};
 ghost use Rattle.graph.specs.Tables.{at};
 ghost use Rattle.graph.specs.Graph.{privilege-count};
 ghost use Rattle.graph.specs.Conflicts.{conflict};
-ghost use Rattle.graph.specs.Reading.{graph-of};
 ghost use Rattle.seats.specs.Seats.{seat-count};
 ghost use Rattle.seats.specs.Bytes.{bytes-of};
 ghost use Rattle.seats.specs.Written.{Written};
 ghost use Rattle.seats.specs.Images.{set-bytes, privilege-bytes, entry-bytes, trailer};
 ghost use Rattle.seats.specs.Saving.{save};
-ghost use Rattle.seats.specs.Reading.{read-filled};
+ghost use Rattle.seats.specs.Reading.{state-of, read-filled};
 ghost use Rattle.seats.specs.ImageWork.{table-entries, row-entries, pair-entries};
 use crate::Filled;
 use crate::layout::ENDS;
@@ -23,7 +22,7 @@ use crate::layout::distance;
 use crate::layout::only;
 use crate::writing::put_byte;
 use crate::writing::put_number;
-use graph::Refusal;
+use crate::writing::too_short;
 use graph::table::entry;
 
 // An entry: its key, and the n bytes of its value.
@@ -144,7 +143,7 @@ pub fn save<'a>(
     seats: &'a [u64],
     buffer: &mut [u8],
 ) -> Filled
-    ensures { λ r. ⌜ (read-filled r, now (buffer .exit)) ≡ save (record { graph = graph-of roles (now (sets .entry)) (now (conflicts .entry)); seats = now (seats .entry) }) (now (buffer .entry)) ⌝ }
+    ensures { λ r. ⌜ (read-filled r, now (buffer .exit)) ≡ save (state-of roles (now (sets .entry)) (now (conflicts .entry)) (now (seats .entry))) (now (buffer .entry)) ⌝ }
 {
     let ordinary = sets::difference(roles, ENDS);
     let taken = occupied(seats);
@@ -153,10 +152,7 @@ pub fn save<'a>(
     let c = count_conflicts(conflicts);
     let length = distance(r, s, c);
     if buffer.len() < length {
-        return Filled::TooShort(Refusal {
-            number: 9,
-            place: 0,
-        });
+        return too_short(9);
     }
     let roles_at = put_number(buffer, 0, 8, entry(sets, 1));
     let conflicts_at = put_table(buffer, roles_at, ordinary, sets);

@@ -3,17 +3,19 @@ ghost use mathlib.Core.Path.{_≡_};
 ghost use Prim.Native.Nat.{_+_, _≤_, _<_};
 ghost use lib.ListN.{length};
 ghost use Rattle.seats.specs.Bytes.{fill};
-ghost use Rattle.seats.specs.Tape.{digits, answer-number, answer-place, line, end-line, longest-line};
+ghost use Rattle.seats.specs.Tape.{digits, line, end-line, longest-line};
 ghost use Rattle.seats.specs.Reading.{read-answer, read-filled};
 ghost use Rattle.seats.specs.Working.{tail-of};
 ghost use Rattle.seats.specs.Written.{Written};
 use crate::Answer;
 use crate::Filled;
+use crate::answers::number_of;
+use crate::answers::place_of;
 use crate::endian::wide;
 use crate::writing::digit_count;
 use crate::writing::put_byte;
 use crate::writing::put_digits;
-use graph::Refusal;
+use crate::writing::too_short;
 
 // A space and a number, twice, and a line feed at place i of the buffer; the next place.
 fn tail(buffer: &mut [u8], i: usize, x: u64, y: u64) -> usize
@@ -27,35 +29,13 @@ fn tail(buffer: &mut [u8], i: usize, x: u64, y: u64) -> usize
     put_byte(buffer, d, b'\n')
 }
 
-// The number that stands for an answer.
-fn number_of(answer: Answer) -> u64
-    ensures { λ r. ⌜ (r ≡ answer-number (read-answer answer)) × (r < 256) ⌝ }
-{
-    match answer {
-        Answer::Accepted => 0,
-        Answer::Answered(_) => 0,
-        Answer::Refused(refusal) => wide(refusal.number),
-    }
-}
-
-// The place that stands for an answer.
-fn place_of(answer: Answer) -> u64
-    ensures { λ r. ⌜ (r ≡ answer-place (read-answer answer)) × (r < 256) ⌝ }
-{
-    match answer {
-        Answer::Accepted => 0,
-        Answer::Answered(held) => if held { 1 } else { 0 },
-        Answer::Refused(refusal) => wide(refusal.place),
-    }
-}
-
 // A record's line at place i of the buffer, where the longest line has room; the next place.
 pub(crate) fn put_line(buffer: &mut [u8], i: usize, index: u64, answer: Answer) -> usize
     requires { ⌜ i + longest-line ≤ length (now buffer) ⌝ }
     ensures { λ j. ⌜ (Written (now (buffer .entry)) i (line index (read-answer answer)) (now (buffer .exit)) j) × (j ≤ i + longest-line) ⌝ }
 {
-    let n = number_of(answer);
-    let p = place_of(answer);
+    let n = wide(number_of(answer));
+    let p = wide(place_of(answer));
     let j = put_digits(buffer, i, index);
     tail(buffer, j, n, p)
 }
@@ -65,10 +45,7 @@ pub fn write_end(buffer: &mut [u8], count: u64, edges: u64) -> Filled
     ensures { λ r. ⌜ (read-filled r, now (buffer .exit)) ≡ fill 9 (end-line count edges) (now (buffer .entry)) ⌝ }
 {
     if buffer.len() < digit_count(count) + digit_count(edges) + 6 {
-        return Filled::TooShort(Refusal {
-            number: 9,
-            place: 0,
-        });
+        return too_short(9);
     }
     let a = put_byte(buffer, 0, b'e');
     let b = put_byte(buffer, a, b'n');

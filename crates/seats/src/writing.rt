@@ -3,9 +3,19 @@ ghost use mathlib.Core.Path.{_≡_};
 ghost use mathlib.Core.List.{[], _∷_};
 ghost use Prim.Native.Nat.{_+_, _≤_, _<_};
 ghost use lib.ListN.{length};
-ghost use Rattle.seats.specs.Bytes.{bytes-of};
+ghost use Rattle.seats.specs.Bytes.{bytes-of, too-short};
 ghost use Rattle.seats.specs.Written.{Written};
 ghost use Rattle.seats.specs.Tape.{digits};
+ghost use Rattle.seats.specs.Reading.{read-filled};
+use crate::Filled;
+use graph::Refusal;
+
+// What filling answers where the buffer is too short: a refusal at place 0.
+pub(crate) fn too_short(number: u8) -> Filled
+    ensures { λ r. ⌜ read-filled r ≡ too-short number 0 ⌝ }
+{
+    Filled::TooShort(Refusal { number, place: 0 })
+}
 
 // A byte at a place; gives the place behind it.
 pub(crate) fn put_byte(buffer: &mut [u8], at: usize, byte: u8) -> usize

@@ -5,13 +5,12 @@ use borrow.Author.Needs.{needs}
 use mathlib.Core.List.{List, _++_}
 use Prim.Native.Nat.{ℕ, _+_, _<_, _≤_}
 use Rattle.graph.specs.Tables.{at}
-use Rattle.graph.specs.Reading.{graph-of}
 use Rattle.sets.proofs.Laws.{size-bound}
 use lib.ListN.{length}
 use Rattle.seats.specs.Bytes.{bytes-of}
 use Rattle.seats.specs.Seats.{State}
 use Rattle.seats.specs.Images.{entry-bytes, trailer, image}
-use Rattle.seats.specs.Reading.{read-filled}
+use Rattle.seats.specs.Reading.{state-of, read-filled}
 use Rattle.seats.specs.ImageWork.{table-entries, pair-entries}
 use Rattle.seats.proofs.Numbers.{length-bytes-of}
 use Rattle.seats.proofs.ImageLength.{length-trailer}
@@ -22,7 +21,7 @@ use Rattle.seats.proofs.saving.save.Tie as tie
 
 -- ---- the state, and the parts of its image
 abbrev state : tie.Start → State
-state c = record { graph = graph-of (c .args .roles) (c .args .sets .now) (c .args .conflicts .now); seats = c .args .seats .now }
+state c = state-of (c .args .roles) (c .args .sets .now) (c .args .conflicts .now) (c .args .seats .now)
 
 abbrev entered : tie.After-distance → tie.Start
 entered c = c .before .before .before .before .before .before .before .before .before .before
@@ -125,9 +124,11 @@ few c =
 distance-requires : tie.Need-distance-requires
 distance-requires c κs = few c
 
+too-short-requires : tie.Need-too-short-requires
+too-short-requires c κs = search needs
+
 returns : tie.Need-returns
-unfolding read-filled
-returns c = saves-nothing (counted (c .before)) _ (c .if1 .taken)
+returns c = rw (c .too-short .ensures) (saves-nothing (counted (c .before .before)) _ (c .before .if1 .taken))
 
 entry-requires : tie.Need-entry-requires
 entry-requires c κs = search needs
@@ -183,6 +184,7 @@ save-spec =
     cast-s
     count-conflicts-requires
     distance-requires
+    too-short-requires
     returns
     entry-requires
     put-number-requires

@@ -21,11 +21,13 @@ add-if1 c = search needs
 add-if1-2 : tie.Need-add-if1-2
 add-if1-2 c = search needs
 
+too-short-requires : tie.Need-too-short-requires
+too-short-requires c κs = search needs
+
 returns : tie.Need-returns
-unfolding read-filled
 returns c =
-    let s = c .before .before .before .before .args in
-    line-unfilled (s .buffer .now) _ (101 ∷ 110 ∷ 100 ∷ []) _ _ (end-joined (s .count) (s .edges)) (omega arith)
+    let s = c .before .before .before .before .before .args in
+    rw (c .too-short .ensures) (line-unfilled (s .buffer .now) _ (101 ∷ 110 ∷ 100 ∷ []) _ _ (end-joined (s .count) (s .edges)) (omega arith))
 
 put-byte-requires : tie.Need-put-byte-requires
 put-byte-requires c κs = search needs
@@ -60,6 +62,7 @@ write-end-spec =
     digit-count-requires-2
     add-if1
     add-if1-2
+    too-short-requires
     returns
     put-byte-requires
     put-byte-requires-2
