@@ -16,8 +16,8 @@ use Rattle.seats.specs.Bytes.{Filled, fill}
 use Rattle.seats.specs.Seats.{State, fresh}
 use Rattle.seats.specs.Tape.{records, fed, feed}
 use Rattle.seats.specs.Reading.{read-state, read-filled}
-use Rattle.seats.proofs.TapeRecords.{record-count, fed-none, fed-append}
-use Rattle.seats.proofs.Putting.{fill-written}
+use Rattle.seats.proofs.TapeRecords.{count-records, fed-none, fed-append}
+use Rattle.seats.proofs.Written.{fill-written}
 use Rattle.seats.proofs.Feeding.{Told, feed-told}
 use Rattle.benchtape.specs.Sitting.{chunk-length, Within, standing, Answered, Reached, Proceeded}
 use Rattle.benchtape.specs.declared.Sitting.{Sitting}
@@ -99,7 +99,7 @@ module _ (s r : Sitting) (bytes : List ℕ) (at : Reached s) (on : s .more ≡ t
               let l = length-append (at .tape) bytes in
               omega arith;
         };
-        grown = λ m. let f = full e m in let n = record-count bytes in let c = counted e in omega arith;
+        grown = λ m. let f = full e m in let n = count-records bytes in let c = counted e in omega arith;
         bound = λ m. a .bound e;
       }
       go true e = record {

@@ -2,7 +2,7 @@
 use mathlib.Core.Bool.{true, false}
 use mathlib.Core.List.{List}
 use mathlib.Core.Path.{_≡_}
-use Prim.Native.Nat.{ℕ, _+_, _%_, _^_, _<_}
+use Prim.Native.Nat.{ℕ, _+_, _*_, _%_, _^_, _<_}
 use lib.Dec.{eqb}
 use lib.ListN.{length}
 use Rattle.io.specs.Counts.{Counts}
@@ -15,12 +15,12 @@ use Rattle.benchtape.specs.declared.Read as read-enum
 use Rattle.benchtape.specs.declared.Read.the-variants as readings
 use Rattle.benchtape.specs.declared.Sitting as sitting-struct
 
--- How many bytes are read at once, and how many records these are.
-abbrev pub chunk-length : ℕ
-chunk-length = 32768
-
+-- How many records are read at once, and how many bytes these are.
 abbrev pub chunk-records : ℕ
 chunk-records = 1024
+
+abbrev pub chunk-length : ℕ
+chunk-length = chunk-records * record-length
 
 -- The bytes read lie within the buffer.
 abbrev pub Within : read-enum.Read → List ℕ → Type 0

@@ -17,14 +17,19 @@ use libc::STDIN_FILENO;
 use libc::STDOUT_FILENO;
 use seats::Filled;
 use seats::State;
+use seats::records::RECORD;
 use seats::tape;
+use seats::tape::LINE;
 use seats::text;
 
-// How many bytes are read at once: 1,024 records.
-const CHUNK: usize = 32768;
+// How many records are read at once.
+const RECORDS: usize = 1024;
 
-// How many bytes the lines of so many records take at the most.
-const ROOM: usize = 29696;
+// How many bytes they have.
+const CHUNK: usize = RECORDS * RECORD;
+
+// How many bytes their lines take at the most.
+const ROOM: usize = RECORDS * LINE;
 
 // What reading gives: how many bytes, or that it failed.
 enum Read {

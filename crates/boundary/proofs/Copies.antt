@@ -3,11 +3,13 @@
 use mathlib.Core.Path.{_≡_, refl, sym, ap, _∙_}
 use mathlib.Core.List.{List, [], _∷_, _++_, append-nil}
 use Prim.Native.Nat.{ℕ, zero, suc, _+_, _<_}
-use native.Mathlib.Nat.{not-suc-le-zero, le-of-suc-le-suc}
+use native.Mathlib.Nat.{add-zero, not-suc-le-zero, le-of-suc-le-suc}
 use native.Mathlib.Numerals.{add-one}
 use native.Mathlib.Omega.{arith}
 use lib.ListN.{length, getD, take, drop, set, length-drop}
-use lib.Seq.{getD-drop, drop-length, take-length, paste, paste-suc}
+use lib.Seq.{getD-drop, drop-cons, drop-length}
+use Rattle.seats.specs.Written.{Written}
+use Rattle.seats.proofs.Written.{Unwritten, unwritten-all, unwritten-next, unwritten-none, one-written}
 
 front-suc : (i : ℕ) (s t : List ℕ) → i < length s → i < length t → set (take i s ++ drop i t) i (getD s i 0) ≡ take (suc i) s ++ drop (suc i) t
 front-suc i [] t l k = absurd (not-suc-le-zero l)
@@ -26,11 +28,14 @@ copied-out W t a i l k e =
 pub all-out : (s t : List ℕ) {u : List ℕ} (n : ℕ) → length t ≡ n → u ≡ take n s ++ drop n t → u ≡ take n s
 all-out s t n l e = e ∙ ap (λ (r : List ℕ). take n s ++ r) (ap (λ (k : ℕ). drop k t) (sym l) ∙ drop-length t) ∙ append-nil (take n s)
 
--- A word of the table copied to its place in the block.
-pub copied-in : (W t : List ℕ) (a i : ℕ) {u : List ℕ} → a + i < length W → i < length t → u ≡ paste W a t i
-    → set u (a + i) (getD t i 0) ≡ paste W a t (i + 1)
-copied-in W t a i l k e = rw (e, add-one) (paste-suc W a t i 0 l k)
+-- Words of a table copied into the block: none, one more, all.
+pub none-in : (W t : List ℕ) (a : ℕ) → Unwritten W a t W (a + 0) (drop 0 t)
+none-in W t a = rw (add-zero a) (unwritten-all W a t)
 
--- All of the table copied there.
-pub all-in : (W t : List ℕ) (a n : ℕ) {u : List ℕ} → length t ≡ n → u ≡ paste W a t n → u ≡ (take a W ++ t) ++ drop (a + n) W
-all-in W t a n l e = e ∙ ap (λ (r : List ℕ). (take a W ++ r) ++ drop (a + n) W) (ap (λ (k : ℕ). take k t) (sym l) ∙ take-length t)
+pub copied-in : {W t u : List ℕ} (a i : ℕ) → i < length t → Unwritten W a t u (a + i) (drop i t) → Unwritten W a t (set u (a + i) (getD t i 0)) (a + (i + 1)) (drop (i + 1) t)
+copied-in {t = t} {u = u} a i l r =
+    let e : a + (i + 1) ≡ a + i + 1 = omega arith in
+    rw (e, add-one i) (unwritten-next (getD t i 0 ∷ []) (drop (suc i) t) (rw (drop-cons t i 0 l) at r) (one-written u (a + i) (getD t i 0)))
+
+pub all-in : {W t u : List ℕ} (a n : ℕ) → length t ≡ n → Unwritten W a t u (a + n) (drop n t) → Written W a t u (a + n)
+all-in {t = t} a n l r = unwritten-none (rw (ap (λ (k : ℕ). drop k t) (sym l) ∙ drop-length t) at r)

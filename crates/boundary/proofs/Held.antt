@@ -6,7 +6,7 @@ use mathlib.Core.List.{List, [], _∷_, _++_, map}
 use Prim.Native.Nat.{ℕ, _-_, _≤_}
 use native.Mathlib.Omega.{arith}
 use borrow.Author.Tests.{le-leb}
-use lib.ListN.{length, drop, set, replicate, length-append, length-drop, length-set}
+use lib.ListN.{length, drop, replicate, length-append, length-drop, length-set}
 use lib.Seq.{drop-drop, take-at, drop-at}
 use lib.Dec.{eqb, leb, ltb}
 use Rattle.lists.specs.Runs.{run}

@@ -9,46 +9,35 @@ use native.Mathlib.Nat.{zero-add, suc-add}
 use native.Mathlib.Omega.{arith}
 use borrow.Author.Tests.{ltb-true}
 use lib.ListN.{length, getD, drop, set, length-append, length-drop, length-set, take-append-drop}
-use lib.Seq.{length-take-le, drop-cons, drop-drop, take-at, drop-at, set-split, set-append-left}
+use lib.Seq.{length-take-le, drop-cons, drop-drop, set-append-left}
 use lib.Dec.{ltb}
 use Rattle.sets.proofs.Tests.{passes, fails, decide}
 use Rattle.graph.specs.Tables.{stored}
 use Rattle.seats.specs.Seats.{State}
 use Rattle.seats.specs.Reading.{state-of}
+use Rattle.seats.specs.Written.{Written}
+use Rattle.seats.proofs.Written.{and-then, one-written, written-front}
 use Rattle.boundary.specs.Block.{table-at, state-in, words-of, holding}
-use Rattle.boundary.specs.Working.{Wrote, stored-at}
+use Rattle.boundary.specs.Working.{stored-at}
 
 -- ---- tables written
 
--- A table written leaves the block's length.
-pub wrote-length : (W : List ℕ) (i : ℕ) {t X : List ℕ} → i + 64 ≤ length W → Wrote W i t X → length X ≡ length W
-wrote-length W i {t} l w =
-    let a = length-take-le i W (omega arith) in
-    let b = w .whole in
-    ap length (w .words) ∙ simp (length-append, length-drop) (omega arith)
-
--- A front, and a table written behind it.
-put-next : (F W : List ℕ) (n : ℕ) {t u X : List ℕ} → length F ≡ n → u ≡ F ++ drop n W → Wrote u n t X → X ≡ (F ++ t) ++ drop (n + 64) W
-put-next F W n l e w =
-    let d : drop (n + 64) (F ++ drop n W) ≡ drop (n + 64) W = sym (drop-drop 64 n (F ++ drop n W)) ∙ ap (λ (k : List ℕ). drop 64 k) (drop-at F (drop n W) n l) ∙ drop-drop 64 n W in
-    w .words ∙ rw (e, take-at F (drop n W) n l, d)
-
-length-next : (F t : List ℕ) (n : ℕ) → length F ≡ n → length t ≡ 64 → length (F ++ t) ≡ n + 64
-length-next F t n l k = length-append F t ∙ rw (l, k)
-
 -- The roles and the sets written.
-roles-put : (r : ℕ) (W : List ℕ) {A X : List ℕ} → 0 < length W → Wrote (set W 0 r) 1 A X → X ≡ (r ∷ A) ++ drop 65 W
-roles-put r W l w = put-next (r ∷ []) W 1 refl (set-split W 0 r l) w
+roles-put : (r : ℕ) (W : List ℕ) {A X : List ℕ} → 65 ≤ length W → Written (set W 0 r) 1 A X 65 → X ≡ (r ∷ A) ++ drop 65 W
+roles-put r W {A} l w =
+    let p = and-then (one-written W 0 r) w in
+    let n = p .place in
+    let e : suc (length A) ≡ 65 = omega arith in
+    written-front p (omega arith) ∙ ap (λ (k : ℕ). (r ∷ A) ++ drop k W) e
 
 -- A state written.
-pub state-put : (s : State) (W : List ℕ) {X Y Z : List ℕ} → 0 < length W → Wrote (set W 0 (s .graph .roles)) 1 (s .graph .sets) X → Wrote X 65 (s .graph .conflicts) Y → Wrote Y 129 (s .seats) Z → Z ≡ holding s W
+pub state-put : (s : State) (W : List ℕ) {X Y Z : List ℕ} → 193 ≤ length W → Written (set W 0 (s .graph .roles)) 1 (s .graph .sets) X 65 → Written X 65 (s .graph .conflicts) Y 129 → Written Y 129 (s .seats) Z 193 → Z ≡ holding s W
 unfolding holding words-of
 state-put s W l w x y =
-    let F = s .graph .roles ∷ s .graph .sets in
-    let a = length-next (s .graph .roles ∷ []) (s .graph .sets) 1 refl (w .whole) in
-    let b = put-next F W 65 a (roles-put (s .graph .roles) W l w) x in
-    let c = put-next (F ++ s .graph .conflicts) W 129 (length-next F (s .graph .conflicts) 65 a (x .whole)) b y in
-    c ∙ ap (λ (k : List ℕ). (s .graph .roles ∷ k) ++ drop 193 W) (append-assoc (s .graph .sets) (s .graph .conflicts) (s .seats))
+    let p = and-then (one-written W 0 (s .graph .roles)) (and-then w (and-then x y)) in
+    let n = p .place in
+    let e : length (words-of s) ≡ 193 = omega arith in
+    written-front p (omega arith) ∙ ap (λ (k : ℕ). words-of s ++ drop k W) e
 
 -- ---- the words as tables
 
@@ -68,10 +57,10 @@ last-tables : (W : List ℕ) → drop 65 W ≡ table-at W 65 ++ (table-at W 129 
 last-tables W = next-table W 65 ∙ ap (λ (k : List ℕ). table-at W 65 ++ k) (next-table W 129)
 
 -- Roles and sets written before tables that stay.
-pub graph-put : (s : State) (W : List ℕ) {X : List ℕ} → 0 < length W → s .graph .conflicts ≡ table-at W 65 → s .seats ≡ table-at W 129 → Wrote (set W 0 (s .graph .roles)) 1 (s .graph .sets) X → X ≡ holding s W
+pub graph-put : (s : State) (W : List ℕ) {X : List ℕ} → 193 ≤ length W → s .graph .conflicts ≡ table-at W 65 → s .seats ≡ table-at W 129 → Written (set W 0 (s .graph .roles)) 1 (s .graph .sets) X 65 → X ≡ holding s W
 unfolding holding words-of
 graph-put s W l p q w =
-    roles-put (s .graph .roles) W l w
+    roles-put (s .graph .roles) W (omega arith) w
     ∙ rw (last-tables W, p, q) (ap (λ (k : List ℕ). s .graph .roles ∷ k) (sym (regroup (s .graph .sets) (table-at W 65) (table-at W 129) (drop 193 W))))
 
 -- The front of a block up to its conflicts, and the rest.

@@ -4,7 +4,7 @@ use mathlib.Core.Path.{_≡_, ap, ap₂, _∙_}
 use mathlib.Core.List.{List}
 use Prim.Native.Nat.{ℕ}
 use Rattle.seats.specs.Seats.{State}
-use Rattle.seats.specs.Calls.{Answer, after}
+use Rattle.seats.specs.Calls.{Answer}
 use Rattle.boundary.specs.Block.{holding, code-of}
 use Rattle.boundary.specs.Keeper.{given}
 

@@ -14,9 +14,19 @@ use Rattle.seats.specs.Reading.{state-of}
 abbrev pub table-length : ℕ
 table-length = 64
 
--- How many words a state takes: the ordinary roles, then the tables of effective sets, conflicts and seats.
+-- Where the tables of a state start: word 0 has the ordinary roles, and behind them stand the effective sets, the conflicts and the seats.
+abbrev pub sets-word : ℕ
+sets-word = 1
+
+abbrev pub conflicts-word : ℕ
+conflicts-word = sets-word + table-length
+
+abbrev pub seats-word : ℕ
+seats-word = conflicts-word + table-length
+
+-- How many words a state takes.
 abbrev pub block-length : ℕ
-block-length = 193
+block-length = seats-word + table-length
 
 -- The table that starts at word i.
 abbrev pub table-at : List ℕ → ℕ → List ℕ
@@ -24,7 +34,7 @@ table-at W i = take table-length (drop i W)
 
 -- The state that a block's first words hold.
 abbrev pub state-in : List ℕ → State
-state-in W = state-of (getD W 0 0) (table-at W 1) (table-at W 65) (table-at W 129)
+state-in W = state-of (getD W 0 0) (table-at W sets-word) (table-at W conflicts-word) (table-at W seats-word)
 
 -- The words of a state.
 unfoldable pub words-of : State → List ℕ

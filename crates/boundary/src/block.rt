@@ -2,14 +2,22 @@
 ghost use mathlib.Core.Path.{_≡_};
 ghost use Prim.Native.Nat.{_+_, _≤_};
 ghost use lib.ListN.{length};
+ghost use Rattle.seats.specs.Written.{Written};
 ghost use Rattle.seats.specs.Reading.{read-state};
-ghost use Rattle.boundary.specs.Block.{block-length, table-at, state-in, holding};
-ghost use Rattle.boundary.specs.Working.{Wrote, stored-at};
+ghost use Rattle.boundary.specs.Block.{table-length, block-length, table-at, state-in, holding};
+ghost use Rattle.boundary.specs.Working.{stored-at};
 use graph::Entry;
 use seats::State;
 
+// Where the tables of sets, conflicts and seats start.
+pub(crate) const SETS: usize = 1;
+
+pub(crate) const CONFLICTS: usize = SETS + 64;
+
+pub(crate) const SEATS: usize = CONFLICTS + 64;
+
 // How many words a state takes.
-pub(crate) const WORDS: usize = 193;
+pub(crate) const WORDS: usize = SEATS + 64;
 
 // The table that starts at a word.
 pub(crate) fn table_at(block: &[u64], at: usize) -> [u64; 64]
@@ -28,9 +36,9 @@ pub(crate) fn state_in(block: &[u64]) -> State
     requires { ⌜ block-length ≤ length (now block) ⌝ }
     ensures { λ r. ⌜ read-state r ≡ state-in (now (block .entry)) ⌝ }
 {
-    let sets = table_at(block, 1);
-    let conflicts = table_at(block, 65);
-    let seats = table_at(block, 129);
+    let sets = table_at(block, SETS);
+    let conflicts = table_at(block, CONFLICTS);
+    let seats = table_at(block, SEATS);
     State {
         roles: block[0],
         sets,
@@ -42,7 +50,7 @@ pub(crate) fn state_in(block: &[u64]) -> State
 // Writes a table, from a word on.
 pub(crate) fn put_table(block: &mut [u64], at: usize, table: &[u64; 64])
     requires { ⌜ at + 64 ≤ length (now block) ⌝ }
-    ensures { λ _. ⌜ Wrote (now (block .entry)) at (now (table .entry)) (now (block .exit)) ⌝ }
+    ensures { λ _. ⌜ Written (now (block .entry)) at (now (table .entry)) (now (block .exit)) (at + table-length) ⌝ }
 {
     let words = &table[..];
     for i in 0..64usize {
@@ -59,9 +67,9 @@ pub(crate) fn put_state(block: &mut [u64], state: State)
     let conflicts = state.conflicts;
     let seats = state.seats;
     block[0] = state.roles;
-    put_table(block, 1, &sets);
-    put_table(block, 65, &conflicts);
-    put_table(block, 129, &seats);
+    put_table(block, SETS, &sets);
+    put_table(block, CONFLICTS, &conflicts);
+    put_table(block, SEATS, &seats);
 }
 
 // Stores an entry, if there is one, in the table that starts at a word.

@@ -7,6 +7,9 @@ ghost use Rattle.seats.specs.Calls.{change, perform};
 ghost use Rattle.seats.specs.Reading.{read-request, read-decision, read-changed};
 ghost use Rattle.boundary.specs.Block.{block-length, state-in};
 ghost use Rattle.boundary.specs.Keeper.{given, fresh-block, call-block};
+use crate::block::CONFLICTS;
+use crate::block::SEATS;
+use crate::block::SETS;
 use crate::block::WORDS;
 use crate::block::put_state;
 use crate::block::put_table;
@@ -54,9 +57,9 @@ fn decided(block: &[u64], request: Request) -> Decision
     requires { ⌜ block-length ≤ length (now block) ⌝ }
     ensures { λ d. let s = state-in (now (block .entry)) in ⌜ read-decision s d ≡ perform s (read-request request) ⌝ }
 {
-    let sets = &block[1..65];
-    let conflicts = &block[65..129];
-    let seats = &block[129..193];
+    let sets = &block[SETS..CONFLICTS];
+    let conflicts = &block[CONFLICTS..SEATS];
+    let seats = &block[SEATS..WORDS];
     deciding::decide(block[0], sets, conflicts, seats, request)
 }
 
@@ -69,8 +72,8 @@ fn take_request(block: &mut [u64], request: Request) -> u32
     let answer = decision.answer;
     let conflict = decision.conflict;
     let seat = decision.seat;
-    store_at(block, 65, conflict);
-    store_at(block, 129, seat);
+    store_at(block, CONFLICTS, conflict);
+    store_at(block, SEATS, seat);
     code(answer)
 }
 
@@ -79,9 +82,9 @@ fn changed(block: &[u64], edit: Change) -> Changed
     requires { ⌜ block-length ≤ length (now block) ⌝ }
     ensures { λ r. let s = state-in (now (block .entry)) in ⌜ read-changed s r ≡ perform s (change (read-change edit)) ⌝ }
 {
-    let sets = &block[1..65];
-    let conflicts = &block[65..129];
-    let seats = &block[129..193];
+    let sets = &block[SETS..CONFLICTS];
+    let conflicts = &block[CONFLICTS..SEATS];
+    let seats = &block[SEATS..WORDS];
     stepping::decide_change(block[0], sets, conflicts, seats, edit)
 }
 
@@ -96,7 +99,7 @@ fn take_change(block: &mut [u64], edit: Change) -> u32
         Answer::Accepted => {
             let sets = next.sets;
             block[0] = next.roles;
-            put_table(block, 1, &sets);
+            put_table(block, SETS, &sets);
             code(answer)
         }
         _ => code(answer),

@@ -5,6 +5,8 @@ ghost use Rattle.seats.specs.Calls.{refused};
 ghost use Rattle.seats.specs.Reading.{read-answer};
 ghost use Rattle.boundary.specs.Block.{code-of};
 use seats::Answer;
+use seats::answers::number_of;
+use seats::answers::place_of;
 
 // The code of a block with too few words.
 pub(crate) const NO_STATE: u32 = 65535;
@@ -20,9 +22,5 @@ pub(crate) fn refusal_code(number: u8, place: u8) -> u32
 pub(crate) fn code(answer: Answer) -> u32
     ensures { λ r. ⌜ r ≡ code-of (read-answer answer) ⌝ }
 {
-    match answer {
-        Answer::Accepted => 0,
-        Answer::Answered(held) => if held { 1 } else { 0 },
-        Answer::Refused(refusal) => refusal_code(refusal.number, refusal.place),
-    }
+    refusal_code(number_of(answer), place_of(answer))
 }

@@ -1,6 +1,9 @@
 // The exported functions that save an image into a lent buffer, and load one.
 ghost use mathlib.Core.Path.{_≡_};
 ghost use Rattle.boundary.specs.Keeper.{save-block, load-block};
+use crate::block::CONFLICTS;
+use crate::block::SEATS;
+use crate::block::SETS;
 use crate::block::WORDS;
 use crate::block::put_state;
 use crate::block::state_in;
@@ -19,9 +22,9 @@ pub extern "C" fn keeper_save(block: &[u64], buffer: &mut [u8]) -> u32
     if block.len() < WORDS {
         return NO_STATE;
     }
-    let sets = &block[1..65];
-    let conflicts = &block[65..129];
-    let seats = &block[129..193];
+    let sets = &block[SETS..CONFLICTS];
+    let conflicts = &block[CONFLICTS..SEATS];
+    let seats = &block[SEATS..WORDS];
     let filled = saving::save(block[0], sets, conflicts, seats, buffer);
     match filled {
         Filled::Written(n) => n as u32,

@@ -4,4 +4,4 @@ mod block;
 mod calls;
 mod codes;
 mod images;
-mod reading;
+mod queries;

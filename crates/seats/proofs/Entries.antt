@@ -10,7 +10,7 @@ use lib.ListN.{length, take, drop, length-append, length-drop}
 use lib.Seq.{getD-drop, drop-at, take-add}
 use Rattle.seats.specs.Bytes.{bytes-of, number-at, Bytes}
 use Rattle.seats.specs.Images.{Entry, entry-bytes, entries-at}
-use Rattle.seats.proofs.Numbers.{bytes-append, bytes-drop, length-bytes-of, bytes-of-bytes, number-drop, number-from, number-lt, number-behind, bytes-of-number}
+use Rattle.seats.proofs.Numbers.{bytes-drop, length-bytes-of, number-drop, number-from, number-lt, number-behind, bytes-of-number}
 
 -- Every entry of the list has P.
 abbrev pub Each : (Entry → Type 0) → List Entry → Type 0
@@ -31,12 +31,6 @@ length-entry-bytes n [] = sym (omega arith)
 length-entry-bytes n (e ∷ l) =
     let a = length-append (bytes-of n (e .value)) (entry-bytes n l) in
     omega (arith, length-bytes-of n (e .value), length-entry-bytes n l, suc-mul (length l) (suc n))
-
-pub entry-bytes-bytes : (n : ℕ) (l : List Entry) → Each (λ e. e .key < 256) l → Bytes (entry-bytes n l)
-unfolding entry-bytes Bytes
-entry-bytes-bytes n [] h = tt
-entry-bytes-bytes n (e ∷ l) h =
-    (h .0, bytes-append (bytes-of n (e .value)) (entry-bytes n l) (bytes-of-bytes n (e .value)) (entry-bytes-bytes n l (h .1)))
 
 -- ---- reading at a place
 pub length-entries-at : (n i c : ℕ) (l : List ℕ) → length (entries-at n i c l) ≡ c

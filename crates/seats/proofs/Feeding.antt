@@ -3,12 +3,10 @@
 use mathlib.Core.Bool.{Bool, true, false, cond, _&&_}
 use mathlib.Core.List.{List, [], _++_}
 use mathlib.Core.Path.{_≡_, refl, sym, ap, ap₂, _∙_, subst}
-use Prim.Native.Nat.{ℕ, min, _+_, _-_, _*_, _/_, _^_, _≤_, _<_}
-use native.Mathlib.Nat.{zero-add}
+use Prim.Native.Nat.{ℕ, min, _+_, _-_, _*_, _^_, _≤_, _<_}
 use native.Mathlib.Omega.{arith}
-use lib.ListN.{length, take, drop, length-append, length-drop, drop-of-length-le}
+use lib.ListN.{length, take, drop, length-drop, drop-of-length-le}
 use lib.Dec.{T, leb, ltb, leb→le, ltb→lt}
-use lib.Seq.{sets, length-sets}
 use borrow.Author.Tests.{ltb-true}
 use Rattle.sets.proofs.Tests.{both}
 use Rattle.seats.specs.Bytes.{Filled, written, too-short, fill}
@@ -16,27 +14,26 @@ use Rattle.seats.specs.Seats.{State}
 use Rattle.seats.specs.Calls.{Answer}
 use Rattle.seats.specs.Records.{record-length, step}
 use Rattle.seats.specs.Tape.{records, line, fed, longest-line, feed}
-use Rattle.seats.specs.Working.{Put}
-use Rattle.seats.proofs.Putting.{sets-append, filled, fill-written}
-use Rattle.seats.proofs.TapeRecords.{record-count, records-first, records-next, fed-none, fed-next}
+use Rattle.seats.specs.Working.{record-count}
+use Rattle.seats.specs.Written.{Written}
+use Rattle.seats.proofs.Written.{written-length, Unwritten, unwritten-all, unwritten-length, unwritten-next, unwritten-none, filled, fill-written}
+use Rattle.seats.proofs.TapeRecords.{count-records, records-first, records-next, fed-none, fed-next}
 
 -- Of a part fed from the state s₀ into the buffer l₀ after count records, what starts at `start` is left, for the buffer l from `place` on, after index records and from the state s.
 pub record Left (l₀ : List ℕ) (count : ℕ) (part : List ℕ) (s₀ : State) (l : List ℕ) (index place start : ℕ) (s : State) : Type 0 where
   pub within : start ≤ length part
   pub room : place + longest-line * length (records (drop start part)) ≤ length l
-  pub text : sets l place (fed s index (drop start part) .0) ≡ sets l₀ 0 (fed s₀ count part .0)
-  pub placed : place + length (fed s index (drop start part) .0) ≡ length (fed s₀ count part .0)
+  pub lines : Unwritten l₀ 0 (fed s₀ count part .0) l place (fed s index (drop start part) .0)
   pub rest : fed s index (drop start part) .1 ≡ fed s₀ count part .1
 
 module _ (l₀ : List ℕ) (count : ℕ) (part : List ℕ) (s₀ : State) where
   -- All of it is left.
   pub left-start : longest-line * length (records part) ≤ length l₀ → Left l₀ count part s₀ l₀ count 0 0 s₀
-  left-start h = record { within = omega arith; room = omega arith; text = refl; placed = zero-add _; rest = refl }
+  left-start h = record { within = omega arith; room = omega arith; lines = unwritten-all _ _ _; rest = refl }
 
   -- The buffer is as long as it was.
   pub left-length : {l : List ℕ} {index place start : ℕ} {s : State} → Left l₀ count part s₀ l index place start s → length l ≡ length l₀
-  left-length {l} {index} {place} {start} {s} w =
-      sym (length-sets l place (fed s index (drop start part) .0)) ∙ ap length (w .text) ∙ length-sets l₀ 0 (fed s₀ count part .0)
+  left-length w = unwritten-length (w .lines)
 
   -- Where bytes are left, there is room for a line, and the records so far are fewer than all.
   pub left-room : {l : List ℕ} {index place start : ℕ} {s : State} → Left l₀ count part s₀ l index place start s → start < length part
@@ -52,7 +49,7 @@ module _ (l₀ : List ℕ) (count : ℕ) (part : List ℕ) (s₀ : State) where
   -- One record is fed: its answer and state are the step's, and its line is put at the place.
   pub left-next : {l m : List ℕ} {index place start next j : ℕ} {s t : State} {a : Answer}
       → Left l₀ count part s₀ l index place start s → start < length part → next ≡ min (start + record-length) (length part)
-      → (a, t) ≡ step s (take (next - start) (drop start part)) → Put l place (line (index + 1) a) m j → j ≤ place + longest-line
+      → (a, t) ≡ step s (take (next - start) (drop start part)) → Written l place (line (index + 1) a) m j → j ≤ place + longest-line
       → Left l₀ count part s₀ m (index + 1) j next t
   left-next {l} {m} {index} {place} {start} {next} {j} {s} {t} {a} w h e u p b =
       let behind = fed t (index + 1) (drop next part) in
@@ -65,18 +62,9 @@ module _ (l₀ : List ℕ) (count : ℕ) (part : List ℕ) (s₀ : State) where
         within = omega arith;
         room =
             let x = w .room in
-            let y = ap length (p .text) ∙ length-sets l place (line (index + 1) a) in
+            let y = written-length p in
             omega arith;
-        text =
-            ap₂ (λ (x : List ℕ) (i : ℕ). sets x i (behind .0)) (p .text) (p .next)
-            ∙ sym (sets-append l place (line (index + 1) a) (behind .0))
-            ∙ ap (sets l place) (sym f₀)
-            ∙ w .text;
-        placed =
-            let x = w .placed in
-            let y = p .next in
-            let z = ap length f₀ ∙ length-append (line (index + 1) a) (behind .0) in
-            omega arith;
+        lines = unwritten-next (line (index + 1) a) (behind .0) (rw f₀ at (w .lines)) p;
         rest = ap (λ (z : List ℕ × (ℕ × State)). z .1) (sym f) ∙ w .rest;
       }
 
@@ -87,21 +75,19 @@ module _ (l₀ : List ℕ) (count : ℕ) (part : List ℕ) (s₀ : State) where
       let d : drop start part ≡ [] = drop-of-length-le part h in
       let f = ap (fed s index) d ∙ fed-none s index in
       let f₀ : fed s index (drop start part) .0 ≡ [] = ap (λ (z : List ℕ × (ℕ × State)). z .0) f in
-      let x : l ≡ sets l₀ 0 (fed s₀ count part .0) = ap (sets l place) (sym f₀) ∙ w .text in
-      let n = w .placed in
-      let y : place ≡ length (fed s₀ count part .0) = let z = ap length f₀ in omega arith in
-      let k = ap length x ∙ length-sets l₀ 0 (fed s₀ count part .0) in
+      let p = unwritten-none (rw f₀ at (w .lines)) in
+      let k = written-length p in
       let q = w .room in
-      ap₂ (λ (a : Filled × List ℕ) (b : ℕ × State). (a, b))
-      (filled 9 l₀ (fed s₀ count part .0) (omega arith) (record { text = x; next = omega arith }))
+      let n = p .place in
+      ap₂ (λ (a : Filled × List ℕ) (b : ℕ × State). (a, b)) (filled 9 l₀ (fed s₀ count part .0) (omega arith) p)
       (ap (λ (z : List ℕ × (ℕ × State)). z .1) (sym f) ∙ w .rest)
 
 -- ---- whether a part can be fed
 -- Where n is how many records the part has, and b whether so many can be fed.
 module _ (s : State) (count : ℕ) (part buffer : List ℕ) {b : Bool} {n : ℕ}
-    (can : b ≡ (leb (longest-line * n) (length buffer) && ltb (count + n) (2 ^ 64))) (counted : n ≡ (length part + 31) / record-length) where
+    (can : b ≡ (leb (longest-line * n) (length buffer) && ltb (count + n) (2 ^ 64))) (counted : n ≡ record-count (length part)) where
   tested : (leb (longest-line * length (records part)) (length buffer) && ltb (count + length (records part)) (2 ^ 64)) ≡ b
-  tested = ap (λ (n : ℕ). leb (longest-line * n) (length buffer) && ltb (count + n) (2 ^ 64)) (record-count part ∙ sym counted) ∙ sym can
+  tested = ap (λ (n : ℕ). leb (longest-line * n) (length buffer) && ltb (count + n) (2 ^ 64)) (count-records part ∙ sym counted) ∙ sym can
 
   -- They cannot, and nothing is done.
   pub feed-refused : b ≡ false → _≡_ {A = (Filled × List ℕ) × (ℕ × State)} ((too-short 9 0, buffer), (count, s)) (feed s count part buffer)

@@ -1,4 +1,4 @@
--- How long an image is, at most how long, and that it is made of bytes.
+-- How long an image is, at most how long, and which keys its entries have.
 -- Assumes nothing.
 use mathlib.Core.Path.{_≡_, refl, ap, _∙_}
 use mathlib.Core.Bool.{Bool, not}
@@ -17,11 +17,11 @@ use Rattle.graph.specs.Tables.{at}
 use Rattle.graph.specs.Graph.{Graph, is-end, ordinary, effective, privilege-count}
 use Rattle.graph.specs.Conflicts.{conflict}
 use Rattle.graph.proofs.Order.{ordinary-parts}
-use Rattle.seats.specs.Bytes.{bytes-of, Bytes}
+use Rattle.seats.specs.Bytes.{bytes-of}
 use Rattle.seats.specs.Seats.{State}
-use Rattle.seats.specs.Images.{Entry, listed-from, role-entries, conflict-entries, seat-entries, entry-bytes, distance, trailer, parts, image}
-use Rattle.seats.proofs.Numbers.{bytes-append, length-bytes-of, bytes-of-bytes}
-use Rattle.seats.proofs.Entries.{Each, each-map, length-entry-bytes, entry-bytes-bytes}
+use Rattle.seats.specs.Images.{Entry, listed-from, role-entries, conflict-entries, seat-entries, distance, trailer, parts, image}
+use Rattle.seats.proofs.Numbers.{length-bytes-of}
+use Rattle.seats.proofs.Entries.{Each, length-entry-bytes}
 use Rattle.seats.proofs.Listing.{valued, each-listed}
 use Rattle.seats.proofs.Stores.{filled}
 
@@ -89,36 +89,15 @@ pub image-bound : (s : State) → length (image s) ≤ 5182
 unfolding distance
 image-bound s = omega (arith, image-length s, roles-bound (s .graph), seats-bound s, conflicts-bound (s .graph))
 
--- ---- bytes
+-- ---- keys
 -- The number of a role entry is that of an ordinary role.
 pub role-keys : (g : Graph) → Each (λ e. (2 ≤ e .key) × (e .key < 64)) (role-entries g)
 unfolding role-entries
 role-keys g =
     each-listed (ordinary g) (valued (effective g)) (λ e. (2 ≤ e .key) × (e .key < 64)) 0 64 (λ k l t. (ordinary-parts g k t .0, omega arith))
 
-pub seat-keys : (s : State) → Each (λ e. e .key < 64) (seat-entries s)
-unfolding seat-entries
-seat-keys s = each-listed (filled (s .seats)) (valued (at (s .seats))) (λ e. e .key < 64) 0 64 (λ k l t. omega arith)
-
 pub conflict-pairs : (g : Graph) → Each (λ e. (e .key < e .value) × (e .value < privilege-count)) (conflict-entries g)
 unfolding conflict-entries conflict
 conflict-pairs g =
     each-listed (λ k. conflict (g .conflicts) (k / privilege-count) (k % privilege-count)) (λ k. record { key = k / privilege-count; value = k % privilege-count }) (λ e. (e .key < e .value) × (e .value < privilege-count)) 0 (privilege-count * privilege-count)
     (λ k l t. (ltb→lt (k / privilege-count) (k % privilege-count) (both (ltb (k / privilege-count) (k % privilege-count)) (member (k % privilege-count) (at (g .conflicts) (k / privilege-count))) t .0), omega arith))
-
-pub trailer-bytes : (r s c : ℕ) → Bytes (trailer r s c)
-unfolding trailer
-trailer-bytes r s c =
-    bytes-append (bytes-of 4 (distance r s c)) _ (bytes-of-bytes 4 (distance r s c))
-    (bytes-append (bytes-of 1 r) _ (bytes-of-bytes 1 r) (bytes-append (bytes-of 1 s) (bytes-of 2 c) (bytes-of-bytes 1 s) (bytes-of-bytes 2 c)))
-
-pub image-bytes : (s : State) → Bytes (image s)
-unfolding image parts
-image-bytes s =
-    let R = role-entries (s .graph) in
-    let C = conflict-entries (s .graph) in
-    let S = seat-entries s in
-    bytes-append (bytes-of 8 (effective (s .graph) 1)) _ (bytes-of-bytes 8 (effective (s .graph) 1))
-    (bytes-append (entry-bytes 8 R) _ (entry-bytes-bytes 8 R (each-map R (λ e p. let a = p .1 in omega arith) (role-keys (s .graph))))
-    (bytes-append (entry-bytes 1 C) _ (entry-bytes-bytes 1 C (each-map C (λ e p. let a = p .0 in let b = p .1 in omega arith) (conflict-pairs (s .graph))))
-    (bytes-append (entry-bytes 8 S) _ (entry-bytes-bytes 8 S (each-map S (λ e p. omega arith) (seat-keys s))) (trailer-bytes (length R) (length S) (length C)))))

@@ -23,8 +23,8 @@ pub mod Keepers
 pub mod Words
 pub mod Decoding
 pub mod Digits
-pub mod Putting
-pub mod Writing
+pub mod Written
+pub mod Lines
 pub mod MemberEntries
 pub mod SaveParts
 pub mod EntryReading

@@ -6,7 +6,7 @@ use mathlib.Core.List.{List}
 use Prim.Native.Nat.{ℕ, _-_, _^_, _<_, _≤_}
 use native.Mathlib.Decide.{ℕ-discrete}
 use native.Mathlib.Omega.{arith}
-use lib.ListN.{length, set, replicate}
+use lib.ListN.{length, replicate}
 use lib.Seq.{getD-set-other}
 use lib.Dec.{T, eqb}
 use lib.Pow.{pow-pos}

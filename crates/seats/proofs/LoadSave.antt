@@ -11,7 +11,7 @@ use lib.Dec.{T, T-not, eqb, eqb-refl}
 use Rattle.sets.specs.Sets.{empty, member}
 use Rattle.sets.proofs.Tests.{so, equal-test}
 use Rattle.graph.specs.Tables.{at}
-use Rattle.graph.specs.Graph.{role-count, max-role, ordinary, effective}
+use Rattle.graph.specs.Graph.{max-role, ordinary, effective}
 use Rattle.graph.proofs.Tables.{at-replicate}
 use Rattle.graph.proofs.Order.{ordinary-parts, ordinary-join}
 use Rattle.seats.specs.Bytes.{bytes-of, number-at, Bytes}

@@ -20,13 +20,14 @@ use Rattle.graph.specs.Conflicts.{conflict}
 use Rattle.graph.proofs.Drawings.{ordinary-member}
 use Rattle.seats.specs.Bytes.{bytes-of}
 use Rattle.seats.specs.Seats.{State}
+use Rattle.seats.specs.Written.{Written}
 use Rattle.seats.specs.Images.{Entry, listed-from, role-entries, conflict-entries, seat-entries, entry-bytes}
-use Rattle.seats.specs.ImageWork.{Wrote, member-entries, table-entries, row-entries, pair-entries}
+use Rattle.seats.specs.ImageWork.{member-entries, table-entries, row-entries, pair-entries}
 use Rattle.seats.proofs.Numbers.{length-bytes-of}
 use Rattle.seats.proofs.Stores.{filled}
 use Rattle.seats.proofs.Pairs.{pair-at, has-pair}
 use Rattle.seats.proofs.ImageLength.{length-listed}
-use Rattle.seats.proofs.Writing.{Writing, piece-room, writing-next, writing-end}
+use Rattle.seats.proofs.Written.{Unwritten, piece-room, unwritten-next, unwritten-none}
 
 -- ---- lists by places
 listed-cong : (has same : ℕ → Bool) (entry : ℕ → Entry) (i n : ℕ) → ((k : ℕ) → i ≤ k → k < i + n → has k ≡ same k) → listed-from i n has entry ≡ listed-from i n same entry
@@ -107,8 +108,8 @@ members-none v entry = listed-none (λ n. member n 0) entry 0 v member-empty
 
 -- Of the entries of `rest`, n bytes for each value, that of the lowest member k is written next.
 module _ {old whole buffer : List ℕ} {start i : ℕ} (v n : ℕ) (entry : ℕ → Entry) {rest k : ℕ} (small : rest < 2 ^ v) (some : rest ≢ 0) (q : k ≡ lowest-member v rest)
-    (w : Writing old start whole buffer i (entry-bytes n (member-entries v rest entry))) where
-  lowest-first : Writing old start whole buffer i ((entry k .key ∷ bytes-of n (entry k .value)) ++ entry-bytes n (member-entries v (without-lowest v rest) entry))
+    (w : Unwritten old start whole buffer i (entry-bytes n (member-entries v rest entry))) where
+  lowest-first : Unwritten old start whole buffer i ((entry k .key ∷ bytes-of n (entry k .value)) ++ entry-bytes n (member-entries v (without-lowest v rest) entry))
   unfolding member-entries entry-bytes
   lowest-first =
       rw q
@@ -116,16 +117,16 @@ module _ {old whole buffer : List ℕ} {start i : ℕ} (v n : ℕ) (entry : ℕ 
       (let l = lowest-below v rest small some in omega arith) (lowest-in v rest small some) (lowest-of v rest) (member-next v rest))
       at w)
 
-  pub member-room : i + 1 + n ≤ length buffer
-  member-room = let r = piece-room (entry k .key ∷ bytes-of n (entry k .value)) _ lowest-first in let l = length-bytes-of n (entry k .value) in omega arith
+  pub member-room : start + length whole ≤ length old → i + 1 + n ≤ length buffer
+  member-room h = let r = piece-room (entry k .key ∷ bytes-of n (entry k .value)) _ lowest-first h in let l = length-bytes-of n (entry k .value) in omega arith
 
-  pub member-written : {after : List ℕ} {next left : ℕ} → left ≡ without-lowest v rest → Wrote buffer i (entry k .key ∷ bytes-of n (entry k .value)) after next
-      → Writing old start whole after next (entry-bytes n (member-entries v left entry))
-  member-written e p = rw e (writing-next (entry k .key ∷ bytes-of n (entry k .value)) _ lowest-first p)
+  pub member-written : {after : List ℕ} {next left : ℕ} → left ≡ without-lowest v rest → Written buffer i (entry k .key ∷ bytes-of n (entry k .value)) after next
+      → Unwritten old start whole after next (entry-bytes n (member-entries v left entry))
+  member-written e p = rw e (unwritten-next (entry k .key ∷ bytes-of n (entry k .value)) _ lowest-first p)
 
-pub members-written : {old whole buffer : List ℕ} {start i : ℕ} (v n : ℕ) (entry : ℕ → Entry) {rest : ℕ} → rest ≡ 0 → Writing old start whole buffer i (entry-bytes n (member-entries v rest entry)) → Wrote old start whole buffer i
+pub members-written : {old whole buffer : List ℕ} {start i : ℕ} (v n : ℕ) (entry : ℕ → Entry) {rest : ℕ} → rest ≡ 0 → Unwritten old start whole buffer i (entry-bytes n (member-entries v rest entry)) → Written old start whole buffer i
 unfolding entry-bytes
-members-written v n entry z w = writing-end (rw (z, members-none v entry) at w)
+members-written v n entry z w = unwritten-none (rw (z, members-none v entry) at w)
 
 -- ---- the roles and the seats
 pub roles-listed : (g : Graph) → table-entries (difference (g .roles) 3) (g .sets) ≡ role-entries g
@@ -178,16 +179,16 @@ module _ (C : List ℕ) where
       omega arith
 
   -- One row more is written.
-  module _ {old whole buffer : List ℕ} {start i : ℕ} (a : ℕ) (h : a < privilege-count) {row : ℕ} (e : row ≡ collect privilege-count (conflict C a)) (w : Writing old start whole buffer i (entry-bytes 1 (rows-from a))) where
-    row-first : Writing old start whole buffer i (entry-bytes 1 (row-entries a row) ++ entry-bytes 1 (rows-from (a + 1)))
+  module _ {old whole buffer : List ℕ} {start i : ℕ} (a : ℕ) (h : a < privilege-count) {row : ℕ} (e : row ≡ collect privilege-count (conflict C a)) (w : Unwritten old start whole buffer i (entry-bytes 1 (rows-from a))) where
+    row-first : Unwritten old start whole buffer i (entry-bytes 1 (row-entries a row) ++ entry-bytes 1 (rows-from (a + 1)))
     row-first = rw e (rw (rows-next a h, entry-bytes-append 1) at w)
 
-    pub row-room : i + length (entry-bytes 1 (row-entries a row)) ≤ length buffer
+    pub row-room : start + length whole ≤ length old → i + length (entry-bytes 1 (row-entries a row)) ≤ length buffer
     row-room = piece-room (entry-bytes 1 (row-entries a row)) (entry-bytes 1 (rows-from (a + 1))) row-first
 
-    pub row-written : {after : List ℕ} {next : ℕ} → Wrote buffer i (entry-bytes 1 (row-entries a row)) after next → Writing old start whole after next (entry-bytes 1 (rows-from (a + 1)))
-    row-written p = writing-next (entry-bytes 1 (row-entries a row)) (entry-bytes 1 (rows-from (a + 1))) row-first p
+    pub row-written : {after : List ℕ} {next : ℕ} → Written buffer i (entry-bytes 1 (row-entries a row)) after next → Unwritten old start whole after next (entry-bytes 1 (rows-from (a + 1)))
+    row-written p = unwritten-next (entry-bytes 1 (row-entries a row)) (entry-bytes 1 (rows-from (a + 1))) row-first p
 
-  pub rows-written : {old whole buffer : List ℕ} {start i : ℕ} (a : ℕ) → privilege-count ≤ a → Writing old start whole buffer i (entry-bytes 1 (rows-from a)) → Wrote old start whole buffer i
+  pub rows-written : {old whole buffer : List ℕ} {start i : ℕ} (a : ℕ) → privilege-count ≤ a → Unwritten old start whole buffer i (entry-bytes 1 (rows-from a)) → Written old start whole buffer i
   unfolding entry-bytes
-  rows-written a h w = writing-end (rw (rows-none a h) at w)
+  rows-written a h w = unwritten-none (rw (rows-none a h) at w)

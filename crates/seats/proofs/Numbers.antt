@@ -10,11 +10,6 @@ use lib.Seq.{getD-drop, drop-at}
 use Rattle.seats.specs.Bytes.{bytes-of, number-at, Bytes}
 
 -- ---- lists of bytes
-pub bytes-append : (l m : List ℕ) → Bytes l → Bytes m → Bytes (l ++ m)
-unfolding Bytes
-bytes-append [] m h k = k
-bytes-append (x ∷ l) m h k = (h .0, bytes-append l m (h .1) k)
-
 pub bytes-drop : (n : ℕ) (l : List ℕ) → Bytes l → Bytes (drop n l)
 unfolding Bytes
 bytes-drop zero l h = h
@@ -31,11 +26,6 @@ pub length-bytes-of : (n x : ℕ) → length (bytes-of n x) ≡ n
 unfolding bytes-of
 length-bytes-of zero x = refl
 length-bytes-of (suc n) x = ap suc (length-bytes-of n (x / 256))
-
-pub bytes-of-bytes : (n x : ℕ) → Bytes (bytes-of n x)
-unfolding bytes-of Bytes
-bytes-of-bytes zero x = tt
-bytes-of-bytes (suc n) x = (omega arith, bytes-of-bytes n (x / 256))
 
 -- ---- reading at a place
 pub number-drop : (n i j : ℕ) (l : List ℕ) → number-at n j (drop i l) ≡ number-at n (i + j) l

@@ -3,8 +3,7 @@
 use mathlib.Core.Path.{_≡_, ap, _∙_}
 use mathlib.Core.List.{List, _++_}
 use Prim.Native.Nat.{ℕ, _<_, _≤_}
-use native.Mathlib.Omega.{arith}
-use lib.ListN.{length, take, drop, length-append, length-drop}
+use lib.ListN.{length, take, drop}
 use lib.Seq.{take-append-seam, drop-append-seam}
 use borrow.Author.Tests.{le-leb, lt-leb}
 use Rattle.seats.specs.Bytes.{Filled, written, too-short, fill}
@@ -27,9 +26,6 @@ module _ (s : State) (buffer : List ℕ) (room : length (image s) ≤ length buf
   -- The buffer that saving leaves.
   after : save s buffer .1 ≡ image s ++ drop (length (image s)) buffer
   after = ap (λ (x : Filled × List ℕ). x .1) save-written
-
-  pub save-length : length (save s buffer .1) ≡ length buffer
-  save-length = ap length after ∙ length-append (image s) (drop (length (image s)) buffer) ∙ omega (arith, length-drop (length (image s)) buffer)
 
   pub save-front : take (length (image s)) (save s buffer .1) ≡ image s
   save-front = ap (take (length (image s))) after ∙ take-append-seam (image s) (drop (length (image s)) buffer)

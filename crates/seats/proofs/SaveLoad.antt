@@ -7,7 +7,7 @@ use mathlib.Core.List.{List, _++_}
 use Prim.Native.Nat.{ℕ, _^_, _<_, _*_}
 use native.Mathlib.Decide.{ℕ-discrete}
 use native.Mathlib.Omega.{arith}
-use lib.ListN.{set, replicate}
+use lib.ListN.{replicate}
 use lib.Seq.{getD-set-other}
 use lib.Dec.{T, T-not, eqb}
 use Rattle.sets.specs.Counting.{any}
@@ -17,7 +17,7 @@ use Rattle.sets.proofs.Counting.{any-some}
 use Rattle.sets.proofs.Laws.{member-lt, member-included}
 use Rattle.sets.proofs.Members.{same-members, no-members}
 use Rattle.graph.specs.Tables.{at}
-use Rattle.graph.specs.Graph.{Graph, role-count, max-role, ordinary, effective, privilege-count}
+use Rattle.graph.specs.Graph.{Graph, max-role, ordinary, effective, privilege-count}
 use Rattle.graph.specs.Refusing.{closed-checks}
 use Rattle.graph.specs.Invariants.{Formed}
 use Rattle.graph.proofs.Tables.{at-replicate}

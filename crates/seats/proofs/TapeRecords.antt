@@ -2,7 +2,7 @@
 -- Assumes nothing.
 use mathlib.Core.List.{List, [], _∷_, _++_, append-assoc, append-nil}
 use mathlib.Core.Path.{_≡_, refl, sym, ap, ap₂, _∙_}
-use Prim.Native.Nat.{ℕ, zero, suc, min, _+_, _-_, _/_, _%_, _≤_, _<_}
+use Prim.Native.Nat.{ℕ, zero, suc, min, _+_, _-_, _%_, _≤_, _<_}
 use native.Mathlib.Nat.{not-suc-le-zero, add-zero, zero-add}
 use native.Mathlib.Numerals.{add-one}
 use native.Mathlib.Omega.{arith}
@@ -15,6 +15,7 @@ use Rattle.seats.specs.Seats.{State, fresh}
 use Rattle.seats.specs.Calls.{Answer}
 use Rattle.seats.specs.Records.{record-length, step}
 use Rattle.seats.specs.Lists.{answers, end}
+use Rattle.seats.specs.Working.{record-count}
 use Rattle.seats.specs.Tape.{records-upto, records, line, lines, end-line, printed, fed, Parts, joined, fed-parts}
 
 -- ---- one record after another
@@ -57,9 +58,9 @@ by-records P none more (suc n) (x ∷ l) h =
     more (x ∷ l) (omega arith) (by-records P none more n (drop record-length (x ∷ l)) (omega arith))
 
 -- How many records a tape has.
-pub record-count : (l : List ℕ) → length (records l) ≡ (length l + 31) / record-length
-record-count l =
-    by-records (λ (t : List ℕ). length (records t) ≡ (length t + 31) / record-length)
+pub count-records : (l : List ℕ) → length (records l) ≡ record-count (length l)
+count-records l =
+    by-records (λ (t : List ℕ). length (records t) ≡ record-count (length t))
     (λ t e. ap length (records-none t e) ∙ omega arith)
     (λ t h ih. let e = length-drop record-length t in ap length (records-first t h) ∙ ap suc ih ∙ omega arith)
     (length l) l (omega arith)

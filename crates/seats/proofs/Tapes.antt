@@ -9,10 +9,6 @@ use lib.Dec.{leb}
 use lib.ListN.{length, take, drop, length-drop, drop-of-length-le}
 use lib.Seq.{take-all, take-nil, drop-drop}
 use borrow.Author.Tests.{leb-true, leb-false, not-true, not-false}
-use Rattle.lists.specs.Runs.{run}
-use Rattle.seats.specs.Seats.{State}
-use Rattle.seats.specs.Records.{step}
-use Rattle.seats.specs.Lists.{end}
 use Rattle.seats.specs.Tape.{records}
 use Rattle.seats.proofs.TapeRecords.{records-first, records-none}
 use Rattle.seats.specs.Places.{is-end, record-at, record-end, records-from}
@@ -89,13 +85,3 @@ reads-left (suc n) tape at h = go (is-end tape at) refl (λ k. reads-left n tape
 -- Reading on from 0 gives the records of the tape.
 pub reads-records : (tape : List ℕ) → records-from (length tape) tape 0 ≡ records tape
 reads-records tape = reads-left (length tape) tape 0 (omega arith)
-
--- No record leaves the state.
-pub end-none : (s : State) → end s [] ≡ s
-unfolding end run
-end-none s = refl
-
--- A record and those after it leave what those after it leave of the state that it leaves.
-pub end-more : (s : State) (r : List ℕ) (l : List (List ℕ)) → end s (r ∷ l) ≡ end (step s r .1) l
-unfolding end run
-end-more s r l = refl

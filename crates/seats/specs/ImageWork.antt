@@ -1,9 +1,8 @@
--- What the functions that save and load images promise each other: bytes written into a buffer, the entries of a set's members, and entries read and tested.
+-- What the functions that save and load images promise each other: the entries of a set's members, and entries read and tested.
 use mathlib.Core.Path.{_≡_}
 use mathlib.Core.Bool.{Bool, true, cond, _&&_}
-use mathlib.Core.List.{List, [], _∷_, _++_}
-use Prim.Native.Nat.{ℕ, suc, _+_}
-use lib.ListN.{length, take, drop}
+use mathlib.Core.List.{List, [], _∷_}
+use Prim.Native.Nat.{ℕ, suc}
 use lib.Dec.{leb, ltb}
 use Rattle.sets.specs.Sets.{empty, member, included}
 use Rattle.graph.specs.Tables.{at}
@@ -12,15 +11,6 @@ use Rattle.graph.specs.Refusing.{passed, refused, verdict}
 use Rattle.graph.specs.Reading.{graph-of}
 use Rattle.seats.specs.Seats.{State}
 use Rattle.seats.specs.Images.{Entry, listed-from, conflict-entries, Contents, keys, stored, stored-pairs, restored, pair-place, entry-checks}
-
--- The list with the bytes in the place of what stood at place i.
-unfoldable pub overwritten : List ℕ → ℕ → List ℕ → List ℕ
-overwritten l i bytes = take i l ++ (bytes ++ drop (i + length bytes) l)
-
--- A buffer after the bytes were written at place i, and the place behind them.
-pub record Wrote (before : List ℕ) (i : ℕ) (bytes after : List ℕ) (next : ℕ) : Type 0 where
-  pub buffer : after ≡ overwritten before i bytes
-  pub place : next ≡ i + length bytes
 
 -- The entries of a set's members below w, ascending.
 unfoldable pub member-entries : ℕ → ℕ → (ℕ → Entry) → List Entry

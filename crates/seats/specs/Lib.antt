@@ -1,6 +1,7 @@
 pub mod Seats
 pub mod Calls
 pub mod Bytes
+pub mod Written
 pub mod Records
 pub mod Images
 pub mod Saving

@@ -3,7 +3,7 @@ use mathlib.Core.Path.{_≡_}
 use mathlib.Core.Bool.{Bool, true, _||_}
 use mathlib.Core.Logic.{_↔_, _≢_, _⊎_}
 use mathlib.Core.List.{List, _∷_, map}
-use Prim.Native.Nat.{ℕ}
+use Prim.Native.Nat.{ℕ, _-_}
 use lib.ListN.{length, replicate}
 use lib.Dec.{T}
 use Rattle.sets.specs.Sets.{member, strictly-included}
@@ -15,7 +15,7 @@ use Rattle.graph.specs.Drawing.{below, edge, direct}
 use Rattle.seats.specs.Bytes.{Bytes}
 use Rattle.seats.specs.Seats.{State, fresh, assigned}
 use Rattle.seats.specs.Calls.{Call, Answer, answered, is-refusal}
-use Rattle.seats.specs.Records.{step}
+use Rattle.seats.specs.Records.{record-length, step}
 use Rattle.seats.specs.Images.{load, loaded}
 use Rattle.seats.specs.Lists.{answers, end, without-refused, Edge, presence, declaration, assignment, history}
 use Rattle.seats.specs.Invariants.{Invariant}
@@ -48,7 +48,7 @@ module _ (start : State) (history : Saying) where
 
 -- The record of kind 12 by which seat i asks for privilege p.
 unfoldable pub ask-record : ℕ → ℕ → List ℕ
-ask-record i p = 12 ∷ (i ∷ (p ∷ replicate 29 0))
+ask-record i p = 12 ∷ (i ∷ (p ∷ replicate (record-length - 3) 0))
 
 -- Seat i may use privilege p: kind 12, given next, answers yes.
 abbrev pub MayUse : State → ℕ → ℕ → Type 0

@@ -1,19 +1,21 @@
--- What the contracts of private functions speak of: the fields of a record by themselves, what refuses the removal of a role and any change after closing, and text put into a buffer.
+-- What the contracts of private functions speak of: the fields of a record by themselves, what refuses the removal of a role and any change after closing, and the end of a line.
 use mathlib.Core.List.{List, [], _∷_, _++_}
-use mathlib.Core.Path.{_≡_}
-use Prim.Native.Nat.{ℕ, _+_, _*_}
-use lib.ListN.{length, getD}
-use lib.Seq.{sets}
+use Prim.Native.Nat.{ℕ, _+_, _-_, _*_, _/_}
+use lib.ListN.{getD}
 use Rattle.graph.specs.Editing.{Change, add-by-place, add-by-privileges, remove-role, grant, withdraw, add-edge, remove-edge}
 use Rattle.graph.specs.Refusing.{Check, refuse-lowest, input-checks, state-checks, still-below, closed-checks}
 use Rattle.seats.specs.Seats.{State, seat-count, pair-seat}
 use Rattle.seats.specs.Calls.{seat-checks}
-use Rattle.seats.specs.Records.{Fields}
+use Rattle.seats.specs.Records.{record-length, Fields}
 use Rattle.seats.specs.Tape.{digits, space, line-feed}
 
 -- The little-endian number of the four bytes at place i, written out.
 abbrev pub quad-of : List ℕ → ℕ → ℕ
 quad-of l i = getD l i 0 + 256 * getD l (i + 1) 0 + 65536 * getD l (i + 2) 0 + 16777216 * getD l (i + 3) 0
+
+-- How many records so many bytes make, a partial last one among them.
+abbrev pub record-count : ℕ → ℕ
+record-count n = (n + (record-length - 1)) / record-length
 
 -- The fields of a record beside its kind.
 abbrev pub fields-of : ℕ → ℕ → ℕ → ℕ → ℕ → Fields
@@ -36,8 +38,3 @@ after-checks h c = (still-below (h .graph) c ++ closed-checks (h .graph)) ++ (re
 -- Two numbers, each behind a space, and a line feed.
 abbrev pub tail-of : ℕ → ℕ → List ℕ
 tail-of x y = space ∷ (digits x ++ (space ∷ (digits y ++ (line-feed ∷ []))))
-
--- The text w put at place i of the buffer l leaves the buffer m, and j is the place behind the text.
-pub record Put (l : List ℕ) (i : ℕ) (w m : List ℕ) (j : ℕ) : Type 0 where
-  pub text : m ≡ sets l i w
-  pub next : j ≡ i + length w

@@ -1,4 +1,5 @@
 // Seats over the role graph: records and the calls they carry, asks, images, and the lines of a tape.
+pub mod answers;
 pub mod deciding;
 mod endian;
 mod layout;
@@ -13,6 +14,7 @@ pub mod seating;
 pub mod stepping;
 pub mod tape;
 pub mod text;
+mod writing;
 
 use graph::Change;
 use graph::Entry;

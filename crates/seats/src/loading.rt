@@ -9,15 +9,16 @@ ghost use Rattle.sets.specs.Sets.{included};
 ghost use Rattle.graph.specs.Graph.{role-count, max-role, ordinary, effective};
 ghost use Rattle.graph.specs.Refusing.{passed, verdict};
 ghost use Rattle.graph.specs.Refusing as refusing;
-ghost use Rattle.graph.specs.Reading.{drawn-from, graph-of};
+ghost use Rattle.graph.specs.Reading.{drawn-from};
 ghost use Rattle.seats.specs.Calls.{refused};
 ghost use Rattle.seats.specs.Images.{set-bytes, privilege-bytes, distance, entries-at, contents, pair-place, content-checks};
-ghost use Rattle.seats.specs.Reading.{read-answer, read-state};
+ghost use Rattle.seats.specs.Reading.{state-of, read-answer, read-state};
 ghost use Rattle.seats.specs.Promises.{LoadPromise};
 ghost use Rattle.seats.specs.ImageWork.{entry-of, numbered, paired, TableRead, PairsRead, ContentsRead};
 use crate::Answer;
 use crate::Loaded;
 use crate::State;
+use crate::answers::refusal;
 use crate::endian::half;
 use crate::endian::quad;
 use crate::endian::wide;
@@ -26,7 +27,6 @@ use crate::layout::ENDS;
 use crate::layout::distance;
 use crate::layout::only;
 use crate::searches::pair_seat;
-use graph::Refusal;
 use graph::refusing::empty_role;
 use graph::refusing::pair_role;
 use graph::refusing::twin_role;
@@ -183,7 +183,7 @@ fn is_sound<'a>(
     conflicts: &'a [u64; 64],
     seats: &'a [u64; 64],
 ) -> bool
-    ensures { λ r. ⌜ verdict (content-checks (record { graph = graph-of roles (now (sets .entry)) (now (conflicts .entry)); seats = now (seats .entry) })) ≡ cond r passed (refusing.refused 8 0) ⌝ }
+    ensures { λ r. ⌜ verdict (content-checks (state-of roles (now (sets .entry)) (now (conflicts .entry)) (now (seats .entry)))) ≡ cond r passed (refusing.refused 8 0) ⌝ }
 {
     if empty_role(roles, sets) < 64 {
         return false;
@@ -207,7 +207,7 @@ fn is_sound<'a>(
 fn refuse(state: State, number: u8) -> Loaded
     ensures { λ r. ⌜ (read-answer (r .answer) ≡ refused number 0) × (read-state (r .state) ≡ read-state state) ⌝ }
 {
-    let answer = Answer::Refused(Refusal { number, place: 0 });
+    let answer = refusal(number, 0);
     Loaded { answer, state }
 }
 

@@ -1,6 +1,7 @@
 // The tape reader: a lent tape and the place of its next record, over functions of a plain slice and a number.
 ghost use mathlib.Core.Path.{_≡_};
 ghost use Rattle.seats.specs.Places.{is-end, record-at, record-end};
+use crate::records::RECORD;
 
 // A lent tape, and the place of its next record.
 pub struct TapeReader<'a> {
@@ -20,13 +21,13 @@ pub fn record_end(tape: &[u8], at: usize) -> usize
     ensures { λ r. ⌜ r ≡ record-end (now (tape .entry)) at ⌝ }
 {
     let n = tape.len();
-    if n < 32 {
+    if n < RECORD {
         return n;
     }
-    if n - 32 < at {
+    if n - RECORD < at {
         return n;
     }
-    at + 32
+    at + RECORD
 }
 
 // The record at the place, empty at the end of the tape and beyond.

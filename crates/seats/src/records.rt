@@ -23,6 +23,9 @@ use graph::Change;
 use graph::Privilege;
 use graph::Role;
 
+// How many bytes a record has.
+pub const RECORD: usize = 32;
+
 // The little-endian number of bytes 3 to 7, which is zero where each of them is.
 fn spare(bytes: &[u8]) -> u64
     requires { ⌜ 8 ≤ length (now bytes) ⌝ }
@@ -98,7 +101,7 @@ fn named(kind: u8, a: u8, b: u8, x: u64, y: u64, z: u64) -> Decoded
 pub fn decode(bytes: &[u8]) -> Decoded
     ensures { λ r. ⌜ read-decoded r ≡ decode (now (bytes .entry)) ⌝ }
 {
-    if bytes.len() != 32 {
+    if bytes.len() != RECORD {
         return Decoded::Malformed;
     }
     if spare(bytes) != 0 {

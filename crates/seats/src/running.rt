@@ -1,14 +1,10 @@
-// The run of a tape: its records one after the other on one state.
+// One turn of a tape: the record at a place, given to a call on a state.
 ghost use mathlib.Core.Path.{_≡_};
-ghost use Rattle.seats.specs.Reading.{read-state};
-ghost use Rattle.seats.specs.Lists.{end};
-ghost use Rattle.seats.specs.Tape.{records};
 ghost use Rattle.seats.specs.Promises.{StepPromise};
 ghost use Rattle.seats.specs.Places.{record-at, record-end};
 use crate::Answer;
 use crate::State;
 use crate::lent;
-use crate::reader;
 use crate::reader::TapeReader;
 
 // What the record at a place comes to: its answer, the state after it, and the place of the next record.
@@ -31,18 +27,4 @@ pub fn turn(state: State, tape: &[u8], at: usize) -> Turned
         state,
         at: next.at,
     }
-}
-
-// The state that a whole tape leaves.
-pub fn run(state: State, tape: &[u8]) -> State
-    ensures { λ r. ⌜ read-state r ≡ end (read-state state) (records (now (tape .entry))) ⌝ }
-{
-    let mut state = state;
-    let mut at: usize = 0;
-    while !reader::is_end(tape, at) {
-        let next = turn(state, tape, at);
-        state = next.state;
-        at = next.at;
-    }
-    state
 }

@@ -9,48 +9,35 @@ ghost use Rattle.sets.specs.Sets.{empty, size, collect};
 ghost use Rattle.graph.specs.Tables.{at};
 ghost use Rattle.graph.specs.Graph.{privilege-count};
 ghost use Rattle.graph.specs.Conflicts.{conflict};
-ghost use Rattle.graph.specs.Reading.{graph-of};
 ghost use Rattle.seats.specs.Seats.{seat-count};
 ghost use Rattle.seats.specs.Bytes.{bytes-of};
+ghost use Rattle.seats.specs.Written.{Written};
 ghost use Rattle.seats.specs.Images.{set-bytes, privilege-bytes, entry-bytes, trailer};
 ghost use Rattle.seats.specs.Saving.{save};
-ghost use Rattle.seats.specs.Reading.{read-filled};
-ghost use Rattle.seats.specs.ImageWork.{Wrote, table-entries, row-entries, pair-entries};
+ghost use Rattle.seats.specs.Reading.{state-of, read-filled};
+ghost use Rattle.seats.specs.ImageWork.{table-entries, row-entries, pair-entries};
 use crate::Filled;
 use crate::layout::ENDS;
 use crate::layout::distance;
 use crate::layout::only;
-use graph::Refusal;
+use crate::writing::put_byte;
+use crate::writing::put_number;
+use crate::writing::too_short;
 use graph::table::entry;
-
-// The n bytes of x, little-endian, at a place; gives the place behind them.
-fn put_number(buffer: &mut [u8], at: usize, n: usize, x: u64) -> usize
-    requires { ⌜ at + n ≤ length (now buffer) ⌝ }
-    ensures { λ r. ⌜ Wrote (now (buffer .entry)) at (bytes-of n x) (now (buffer .exit)) r ⌝ }
-{
-    let mut rest = x;
-    let mut i: usize = 0;
-    while i < n {
-        buffer[at + i] = (rest % 256) as u8;
-        rest = rest / 256;
-        i += 1;
-    }
-    at + n
-}
 
 // An entry: its key, and the n bytes of its value.
 fn put_entry(buffer: &mut [u8], at: usize, n: usize, key: u8, value: u64) -> usize
     requires { ⌜ at + 1 + n ≤ length (now buffer) ⌝ }
-    ensures { λ r. ⌜ Wrote (now (buffer .entry)) at (key ∷ bytes-of n value) (now (buffer .exit)) r ⌝ }
+    ensures { λ r. ⌜ Written (now (buffer .entry)) at (key ∷ bytes-of n value) (now (buffer .exit)) r ⌝ }
 {
-    buffer[at] = key;
-    put_number(buffer, at + 1, n, value)
+    let value_at = put_byte(buffer, at, key);
+    put_number(buffer, value_at, n, value)
 }
 
 // Each of the keys with its entry of a table: the roles or the seats.
 fn put_table(buffer: &mut [u8], at: usize, keys: u64, table: &[u64]) -> usize
     requires { ⌜ at + length (entry-bytes set-bytes (table-entries keys (now table))) ≤ length (now buffer) ⌝ }
-    ensures { λ r. ⌜ Wrote (now (buffer .entry)) at (entry-bytes set-bytes (table-entries keys (now (table .entry)))) (now (buffer .exit)) r ⌝ }
+    ensures { λ r. ⌜ Written (now (buffer .entry)) at (entry-bytes set-bytes (table-entries keys (now (table .entry)))) (now (buffer .exit)) r ⌝ }
 {
     let mut place = at;
     let mut rest = keys;
@@ -66,7 +53,7 @@ fn put_table(buffer: &mut [u8], at: usize, keys: u64, table: &[u64]) -> usize
 // The conflicts of a lower privilege with higher ones.
 fn put_row(buffer: &mut [u8], at: usize, lower: u8, row: u64) -> usize
     requires { ⌜ at + length (entry-bytes privilege-bytes (row-entries lower row)) ≤ length (now buffer) ⌝ }
-    ensures { λ r. ⌜ Wrote (now (buffer .entry)) at (entry-bytes privilege-bytes (row-entries lower row)) (now (buffer .exit)) r ⌝ }
+    ensures { λ r. ⌜ Written (now (buffer .entry)) at (entry-bytes privilege-bytes (row-entries lower row)) (now (buffer .exit)) r ⌝ }
 {
     let mut place = at;
     let mut rest = row;
@@ -114,7 +101,7 @@ fn count_conflicts(conflicts: &[u64]) -> usize
 // The conflicts, row by row.
 fn put_conflicts(buffer: &mut [u8], at: usize, conflicts: &[u64]) -> usize
     requires { ⌜ at + length (entry-bytes privilege-bytes (pair-entries (now conflicts))) ≤ length (now buffer) ⌝ }
-    ensures { λ r. ⌜ Wrote (now (buffer .entry)) at (entry-bytes privilege-bytes (pair-entries (now (conflicts .entry)))) (now (buffer .exit)) r ⌝ }
+    ensures { λ r. ⌜ Written (now (buffer .entry)) at (entry-bytes privilege-bytes (pair-entries (now (conflicts .entry)))) (now (buffer .exit)) r ⌝ }
 {
     let mut place = at;
     for lower in 0..64u8 {
@@ -139,7 +126,7 @@ fn occupied(seats: &[u64]) -> u64
 // The trailer.
 fn put_trailer(buffer: &mut [u8], at: usize, roles: usize, seats: usize, conflicts: usize) -> usize
     requires { ⌜ (at + 8 ≤ length (now buffer)) × (roles < 256) × (seats < 256) × (conflicts < 65536) ⌝ }
-    ensures { λ r. ⌜ Wrote (now (buffer .entry)) at (trailer roles seats conflicts) (now (buffer .exit)) r ⌝ }
+    ensures { λ r. ⌜ Written (now (buffer .entry)) at (trailer roles seats conflicts) (now (buffer .exit)) r ⌝ }
 {
     let far = distance(roles, seats, conflicts);
     let a = put_number(buffer, at, 4, far as u64);
@@ -156,7 +143,7 @@ pub fn save<'a>(
     seats: &'a [u64],
     buffer: &mut [u8],
 ) -> Filled
-    ensures { λ r. ⌜ (read-filled r, now (buffer .exit)) ≡ save (record { graph = graph-of roles (now (sets .entry)) (now (conflicts .entry)); seats = now (seats .entry) }) (now (buffer .entry)) ⌝ }
+    ensures { λ r. ⌜ (read-filled r, now (buffer .exit)) ≡ save (state-of roles (now (sets .entry)) (now (conflicts .entry)) (now (seats .entry))) (now (buffer .entry)) ⌝ }
 {
     let ordinary = sets::difference(roles, ENDS);
     let taken = occupied(seats);
@@ -165,10 +152,7 @@ pub fn save<'a>(
     let c = count_conflicts(conflicts);
     let length = distance(r, s, c);
     if buffer.len() < length {
-        return Filled::TooShort(Refusal {
-            number: 9,
-            place: 0,
-        });
+        return too_short(9);
     }
     let roles_at = put_number(buffer, 0, 8, entry(sets, 1));
     let conflicts_at = put_table(buffer, roles_at, ordinary, sets);

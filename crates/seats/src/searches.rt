@@ -8,24 +8,14 @@ ghost use Rattle.graph.specs.Tables.{at, put};
 ghost use Rattle.graph.specs.Graph.{role-count};
 ghost use Rattle.graph.specs.Conflicts.{holds-pair};
 ghost use Rattle.seats.specs.Seats.{seat-count, pair-seat, offered-seat};
-ghost use Rattle.seats.specs.Calls.{refused};
-ghost use Rattle.seats.specs.Reading.{state-of, read-answer};
-use crate::Answer;
+ghost use Rattle.seats.specs.Reading.{state-of};
 use crate::Seat;
 use graph::Privilege;
-use graph::Refusal;
 use graph::Role;
 use graph::refusing::holds_both;
 use graph::refusing::holds_pair;
 use graph::table::entry;
 use graph::table::gathered;
-
-// A refusal as an answer.
-pub(crate) fn refusal(number: u8, place: u8) -> Answer
-    ensures { λ r. ⌜ read-answer r ≡ refused number place ⌝ }
-{
-    Answer::Refused(Refusal { number, place })
-}
 
 // The lowest seat that has the role.
 pub(crate) fn holder(seats: &[u64], role: Role) -> u8

@@ -11,7 +11,7 @@ ghost use Rattle.seats.specs.Asks.{is-yes, yes-count};
 ghost use Rattle.seats.specs.Reading.{state-of, read-answer};
 use crate::Answer;
 use crate::Seat;
-use crate::searches::refusal;
+use crate::answers::refusal;
 use graph::Privilege;
 use graph::table::entry;
 use graph::table::gathered;

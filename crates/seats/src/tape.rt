@@ -6,22 +6,20 @@ ghost use lib.Dec.{leb, ltb};
 ghost use lib.ListN.{length};
 ghost use Rattle.seats.specs.Bytes.{fill};
 ghost use Rattle.seats.specs.Promises.{FreshPromise};
-ghost use Rattle.seats.specs.Records.{record-length};
+ghost use Rattle.seats.specs.Working.{record-count};
 ghost use Rattle.seats.specs.Tape.{records, fed, longest-line, feed};
 ghost use Rattle.seats.specs.Reading.{read-state, read-fed};
 use crate::Fed;
 use crate::Filled;
 use crate::State;
 use crate::reader::is_end;
+use crate::records::RECORD;
 use crate::running::turn;
 use crate::text;
-use graph::Refusal;
-
-// How many bytes a record has.
-const RECORD: usize = 32;
+use crate::writing::too_short;
 
 // How many bytes the longest line has.
-const LINE: usize = 29;
+pub const LINE: usize = 29;
 
 // A fresh state, from which a sitting starts.
 pub fn fresh() -> State
@@ -37,9 +35,9 @@ pub fn fresh() -> State
 
 // How many records so many bytes make, a partial last one among them.
 fn record_count(bytes: usize) -> usize
-    ensures { λ r. ⌜ r ≡ (bytes + 31) / record-length ⌝ }
+    ensures { λ r. ⌜ r ≡ record-count bytes ⌝ }
 {
-    bytes / RECORD + (bytes % RECORD + 31) / RECORD
+    bytes / RECORD + (bytes % RECORD + RECORD - 1) / RECORD
 }
 
 // Whether n records more can be fed: the room is enough for their lines, and a word for their count.
@@ -81,12 +79,8 @@ pub fn feed(state: State, count: u64, part: &[u8], buffer: &mut [u8]) -> Fed
     ensures { λ r. ⌜ read-fed r (now (buffer .exit)) ≡ feed (read-state state) count (now (part .entry)) (now (buffer .entry)) ⌝ }
 {
     if !can_feed(count, record_count(part.len()), buffer.len()) {
-        let refusal = Refusal {
-            number: 9,
-            place: 0,
-        };
         return Fed {
-            filled: Filled::TooShort(refusal),
+            filled: too_short(9),
             count,
             state,
         };

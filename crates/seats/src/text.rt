@@ -1,124 +1,54 @@
 // The lines of a tape as text, written into a lent buffer.
 ghost use mathlib.Core.Path.{_≡_};
-ghost use mathlib.Core.List.{[], _∷_};
 ghost use Prim.Native.Nat.{_+_, _≤_, _<_};
 ghost use lib.ListN.{length};
 ghost use Rattle.seats.specs.Bytes.{fill};
-ghost use Rattle.seats.specs.Tape.{digits, answer-number, answer-place, line, end-line, longest-line};
+ghost use Rattle.seats.specs.Tape.{digits, line, end-line, longest-line};
 ghost use Rattle.seats.specs.Reading.{read-answer, read-filled};
-ghost use Rattle.seats.specs.Working.{Put, tail-of};
+ghost use Rattle.seats.specs.Working.{tail-of};
+ghost use Rattle.seats.specs.Written.{Written};
 use crate::Answer;
 use crate::Filled;
+use crate::answers::number_of;
+use crate::answers::place_of;
 use crate::endian::wide;
-use graph::Refusal;
-
-// A byte at place i of the buffer; the next place.
-fn put(buffer: &mut [u8], i: usize, byte: u8) -> usize
-    requires { ⌜ i < length (now buffer) ⌝ }
-    ensures { λ j. ⌜ Put (now (buffer .entry)) i (byte ∷ []) (now (buffer .exit)) j ⌝ }
-{
-    buffer[i] = byte;
-    i + 1
-}
-
-// How many digits a number has, at most 20.
-fn width(x: u64) -> usize
-    ensures { λ r. ⌜ (r ≡ length (digits x)) × (r ≤ 20) ⌝ }
-{
-    let mut n: usize = 1;
-    let mut rest = x;
-    while 10 <= rest {
-        rest = rest / 10;
-        n += 1;
-    }
-    n
-}
-
-// The digits of a number at place i of the buffer; the next place.
-fn number(buffer: &mut [u8], i: usize, x: u64) -> usize
-    requires { ⌜ i + length (digits x) ≤ length (now buffer) ⌝ }
-    ensures { λ j. ⌜ Put (now (buffer .entry)) i (digits x) (now (buffer .exit)) j ⌝ }
-{
-    if x < 10 {
-        return put(buffer, i, 48 + x as u8);
-    }
-    let j = number(buffer, i, x / 10);
-    put(buffer, j, 48 + (x % 10) as u8)
-}
+use crate::writing::digit_count;
+use crate::writing::put_byte;
+use crate::writing::put_digits;
+use crate::writing::too_short;
 
 // A space and a number, twice, and a line feed at place i of the buffer; the next place.
 fn tail(buffer: &mut [u8], i: usize, x: u64, y: u64) -> usize
     requires { ⌜ i + length (digits x) + length (digits y) + 3 ≤ length (now buffer) ⌝ }
-    ensures { λ j. ⌜ Put (now (buffer .entry)) i (tail-of x y) (now (buffer .exit)) j ⌝ }
+    ensures { λ j. ⌜ Written (now (buffer .entry)) i (tail-of x y) (now (buffer .exit)) j ⌝ }
 {
-    let a = put(buffer, i, b' ');
-    let b = number(buffer, a, x);
-    let c = put(buffer, b, b' ');
-    let d = number(buffer, c, y);
-    put(buffer, d, b'\n')
-}
-
-// The number that stands for an answer.
-fn number_of(answer: Answer) -> u64
-    ensures { λ r. ⌜ (r ≡ answer-number (read-answer answer)) × (r < 256) ⌝ }
-{
-    match answer {
-        Answer::Accepted => 0,
-        Answer::Answered(_) => 0,
-        Answer::Refused(refusal) => wide(refusal.number),
-    }
-}
-
-// The place that stands for an answer.
-fn place_of(answer: Answer) -> u64
-    ensures { λ r. ⌜ (r ≡ answer-place (read-answer answer)) × (r < 256) ⌝ }
-{
-    match answer {
-        Answer::Accepted => 0,
-        Answer::Answered(held) => if held { 1 } else { 0 },
-        Answer::Refused(refusal) => wide(refusal.place),
-    }
+    let a = put_byte(buffer, i, b' ');
+    let b = put_digits(buffer, a, x);
+    let c = put_byte(buffer, b, b' ');
+    let d = put_digits(buffer, c, y);
+    put_byte(buffer, d, b'\n')
 }
 
 // A record's line at place i of the buffer, where the longest line has room; the next place.
 pub(crate) fn put_line(buffer: &mut [u8], i: usize, index: u64, answer: Answer) -> usize
     requires { ⌜ i + longest-line ≤ length (now buffer) ⌝ }
-    ensures { λ j. ⌜ (Put (now (buffer .entry)) i (line index (read-answer answer)) (now (buffer .exit)) j) × (j ≤ i + longest-line) ⌝ }
+    ensures { λ j. ⌜ (Written (now (buffer .entry)) i (line index (read-answer answer)) (now (buffer .exit)) j) × (j ≤ i + longest-line) ⌝ }
 {
-    let n = number_of(answer);
-    let p = place_of(answer);
-    let j = number(buffer, i, index);
+    let n = wide(number_of(answer));
+    let p = wide(place_of(answer));
+    let j = put_digits(buffer, i, index);
     tail(buffer, j, n, p)
-}
-
-// A record's line at the front of the buffer, or refusal 9 where the buffer is shorter.
-pub fn write_line(buffer: &mut [u8], index: u64, answer: Answer) -> Filled
-    ensures { λ r. ⌜ (read-filled r, now (buffer .exit)) ≡ fill 9 (line index (read-answer answer)) (now (buffer .entry)) ⌝ }
-{
-    let n = number_of(answer);
-    let p = place_of(answer);
-    if buffer.len() < width(index) + width(n) + width(p) + 3 {
-        return Filled::TooShort(Refusal {
-            number: 9,
-            place: 0,
-        });
-    }
-    let i = number(buffer, 0, index);
-    Filled::Written(tail(buffer, i, n, p))
 }
 
 // The last line at the front of the buffer, or refusal 9 where the buffer is shorter.
 pub fn write_end(buffer: &mut [u8], count: u64, edges: u64) -> Filled
     ensures { λ r. ⌜ (read-filled r, now (buffer .exit)) ≡ fill 9 (end-line count edges) (now (buffer .entry)) ⌝ }
 {
-    if buffer.len() < width(count) + width(edges) + 6 {
-        return Filled::TooShort(Refusal {
-            number: 9,
-            place: 0,
-        });
+    if buffer.len() < digit_count(count) + digit_count(edges) + 6 {
+        return too_short(9);
     }
-    let a = put(buffer, 0, b'e');
-    let b = put(buffer, a, b'n');
-    let c = put(buffer, b, b'd');
+    let a = put_byte(buffer, 0, b'e');
+    let b = put_byte(buffer, a, b'n');
+    let c = put_byte(buffer, b, b'd');
     Filled::Written(tail(buffer, c, count, edges))
 }

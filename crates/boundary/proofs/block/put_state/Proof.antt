@@ -1,33 +1,30 @@
 -- `boundary::block::put_state` meets its contract: the roles and the three tables are written one behind the other.
 -- Assumes nothing.
-use mathlib.Core.Path.{_≡_, _∙_}
 use native.Mathlib.Omega.{arith}
+use mathlib.Core.Path.{_≡_, _∙_}
 use borrow.Author.Needs.{needs}
 use lib.ListN.{length, length-set}
 use Rattle.seats.specs.Reading.{read-state}
-use Rattle.boundary.proofs.Laid.{wrote-length, state-put}
+use Rattle.seats.proofs.Written.{written-length}
+use Rattle.boundary.proofs.Laid.{state-put}
 use Rattle.boundary.proofs.block.put_state.Statement.{statement}
 use Rattle.boundary.proofs.block.put_state.Tie as tie
 
--- ---- the block's length after each table
 abbrev entered : tie.After-put-table → tie.Start
 entered c = c .before .before .before .before .before .before .before
-
-sets-length : (c : tie.After-put-table) → length (c .put-table .last .0) ≡ length (entered c .args .block .now)
-sets-length c =
-    let e = length-set (entered c .args .block .now) 0 (entered c .args .state .roles) in
-    wrote-length _ 1 (omega (arith, entered c .pre)) (c .put-table .ensures) ∙ e
 
 abbrev second : tie.After-put-table2 → tie.After-put-table
 second c = c .before .before .before .before .before
 
-conflicts-length : (c : tie.After-put-table2) → length (c .put-table2 .last .0) ≡ length (entered (second c) .args .block .now)
-conflicts-length c =
-    let e = sets-length (second c) in
-    wrote-length _ 65 (omega (arith, entered (second c) .pre)) (c .put-table2 .ensures) ∙ e
-
 abbrev third : tie.After-put-table3 → tie.After-put-table2
 third c = c .before .before .before .before .before
+
+-- The block's length after each table.
+sets-length : (c : tie.After-put-table) → length (c .put-table .last .0) ≡ length (entered c .args .block .now)
+sets-length c = written-length (c .put-table .ensures) ∙ length-set (entered c .args .block .now) 0 (entered c .args .state .roles)
+
+conflicts-length : (c : tie.After-put-table2) → length (c .put-table2 .last .0) ≡ length (entered (second c) .args .block .now)
+conflicts-length c = written-length (c .put-table2 .ensures) ∙ sets-length (second c)
 
 slice-write-block : tie.Need-slice-write-block
 slice-write-block c = search needs
@@ -36,22 +33,19 @@ put-table-requires : tie.Need-put-table-requires
 put-table-requires c κs = simp length-set (omega (arith, c .before .before .before .before .before .before .pre))
 
 put-table-requires-2 : tie.Need-put-table-requires-2
-put-table-requires-2 c κs = let e = sets-length (c .before .before .before .before) in omega (arith, entered (c .before .before .before .before) .pre)
+put-table-requires-2 c κs = let b = c .before .before .before .before in omega (arith, sets-length b, entered b .pre)
 
 put-table-requires-3 : tie.Need-put-table-requires-3
-put-table-requires-3 c κs = let e = conflicts-length (c .before .before .before .before) in omega (arith, entered (second (c .before .before .before .before)) .pre)
+put-table-requires-3 c κs = let b = c .before .before .before .before in omega (arith, conflicts-length b, entered (second b) .pre)
 
 same-length : tie.Need-same-length
-same-length c =
-    let t = c .before .before in
-    let e = conflicts-length (third t) in
-    wrote-length _ 129 (omega (arith, entered (second (third t)) .pre)) (t .put-table3 .ensures) ∙ e
+same-length c = let b = c .before .before in written-length (b .put-table3 .ensures) ∙ conflicts-length (third b)
 
 returns : tie.Need-returns
 returns c =
-    let t = c .before .before in
-    let s = entered (second (third t)) in
-    state-put (read-state (s .args .state)) (s .args .block .now) (omega (arith, s .pre)) (second (third t) .put-table .ensures) (third t .put-table2 .ensures) (t .put-table3 .ensures)
+    let b = c .before .before in
+    let s = entered (second (third b)) in
+    state-put (read-state (s .args .state)) (s .args .block .now) (s .pre) (second (third b) .put-table .ensures) (third b .put-table2 .ensures) (b .put-table3 .ensures)
 
 pub put-state-spec : {M : Type 1} → statement M
 put-state-spec =

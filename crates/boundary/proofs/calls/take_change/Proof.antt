@@ -6,8 +6,9 @@ use borrow.Author.Needs.{needs}
 use lib.ListN.{length-set}
 use Rattle.seats.specs.Reading.{state-of, read-answer}
 use Rattle.seats.proofs.Changing.{accepted-outcome, other-outcome}
+use Rattle.seats.proofs.Written.{written-length}
 use Rattle.boundary.specs.Block.{table-at, state-in}
-use Rattle.boundary.proofs.Laid.{wrote-length, graph-put, holds-own}
+use Rattle.boundary.proofs.Laid.{graph-put, holds-own}
 use Rattle.boundary.proofs.Taken.{gives}
 use Rattle.boundary.proofs.calls.take_change.Statement.{statement}
 use Rattle.boundary.proofs.calls.take_change.Tie as tie
@@ -34,7 +35,7 @@ same-length : tie.Need-same-length
 same-length c =
     let d = c .before .before .before .before .before .before .before .before .before in
     let s = d .before .before .before in
-    wrote-length _ 1 (simp length-set (omega (arith, s .pre))) (c .before .before .before .put-table .ensures) ∙ length-set (s .args .block .now) 0 (d .changed .result .roles)
+    written-length (c .before .before .before .put-table .ensures) ∙ length-set (s .args .block .now) 0 (d .changed .result .roles)
 
 returns : tie.Need-returns
 unfolding read-answer
@@ -44,7 +45,7 @@ returns c =
     let W = s .args .block .now in
     let r = d .changed .result in
     let h = state-of (r .roles) (r .sets) (table-at W 65) (table-at W 129) in
-    gives W (read-answer (r .answer)) h (c .code .ensures) (graph-put h W (omega (arith, s .pre)) refl refl (c .before .before .before .put-table .ensures))
+    gives W (read-answer (r .answer)) h (c .code .ensures) (graph-put h W (s .pre) refl refl (c .before .before .before .put-table .ensures))
     (sym (accepted-outcome (state-in W) h (ap read-answer (c .before .before .before .before .before .before .before .enum-told .given .1))) ∙ d .changed .ensures)
 
 same-length-2 : tie.Need-same-length-2

@@ -4,19 +4,19 @@ use borrow.Author.Needs.{needs}
 use Prim.Native.Nat.{_-_, _≤_}
 use Rattle.seats.specs.Images.{entry-bytes}
 use Rattle.seats.specs.ImageWork.{pair-entries}
-use Rattle.seats.proofs.Writing.{Writing, writing-start, writing-length}
+use Rattle.seats.proofs.Written.{Unwritten, unwritten-all, unwritten-length}
 use Rattle.seats.proofs.MemberEntries.{rows-from, rows-all, row-room, row-written, rows-written}
 use Rattle.seats.proofs.saving.put_conflicts.Statement.{statement}
 use Rattle.seats.proofs.saving.put_conflicts.Tie as tie
 
 abbrev Inv-loop : tie.InvT-loop
-Inv-loop buffer₀ at conflicts place₀ lower₀ buffer place lower = (lower ≤ 64) × Writing buffer₀ at (entry-bytes 1 (pair-entries conflicts)) buffer place (entry-bytes 1 (rows-from conflicts lower))
+Inv-loop buffer₀ at conflicts place₀ lower₀ buffer place lower = (lower ≤ 64) × Unwritten buffer₀ at (entry-bytes 1 (pair-entries conflicts)) buffer place (entry-bytes 1 (rows-from conflicts lower))
 
 abbrev μ-loop : tie.MeasureT-loop
 μ-loop buffer₀ at conflicts place₀ lower₀ buffer place lower = 64 - lower
 
 loop-holds : tie.Need-loop-holds Inv-loop μ-loop
-loop-holds c = (search needs, rw (rows-all (c .before .before .args .conflicts .now)) (writing-start _ _ _ (c .before .before .pre)))
+loop-holds c = (search needs, rw (rows-all (c .before .before .args .conflicts .now)) (unwritten-all _ _ _))
 
 cast-row : tie.Need-cast-row Inv-loop μ-loop
 cast-row c = search needs
@@ -27,7 +27,8 @@ row-requires c κs = search needs
 put-row-requires : tie.Need-put-row-requires Inv-loop μ-loop
 put-row-requires c κs =
     let b = c .before .before in
-    row-room (b .before .before .before .before .args .conflicts .now) (b .before .loop .lower) (b .loop-test .taken) (c .before .row .ensures) (b .before .loop .inv .1)
+    let s = b .before .before .before .before in
+    row-room (s .args .conflicts .now) (b .before .loop .lower) (b .loop-test .taken) (c .before .row .ensures) (b .before .loop .inv .1) (s .pre)
 
 add-lower : tie.Need-add-lower Inv-loop μ-loop
 add-lower c = search needs
@@ -44,7 +45,7 @@ loop-again c =
     )
 
 same-length : tie.Need-same-length Inv-loop μ-loop
-same-length c = writing-length (c .before .loop .inv .1)
+same-length c = unwritten-length (c .before .loop .inv .1)
 
 returns : tie.Need-returns Inv-loop μ-loop
 returns c = rows-written (c .before .before .before .before .args .conflicts .now) (c .before .loop .lower) (c .loop-test .left) (c .before .loop .inv .1)

@@ -6,19 +6,19 @@ use Rattle.graph.specs.Graph.{privilege-count}
 use Rattle.sets.proofs.Walks.{next-lt, next-falls}
 use Rattle.seats.specs.Images.{entry-bytes}
 use Rattle.seats.specs.ImageWork.{row-entries}
-use Rattle.seats.proofs.Writing.{Writing, writing-start, writing-length}
+use Rattle.seats.proofs.Written.{Unwritten, unwritten-all, unwritten-length}
 use Rattle.seats.proofs.MemberEntries.{member-room, member-written, members-written}
 use Rattle.seats.proofs.saving.put_row.Statement.{statement}
 use Rattle.seats.proofs.saving.put_row.Tie as tie
 
 abbrev Inv-loop : tie.InvT-loop
-Inv-loop buffer₀ place₀ lower row at₀ rest₀ buffer place rest = (rest < 2 ^ 64) × Writing buffer₀ place₀ (entry-bytes 1 (row-entries lower row)) buffer place (entry-bytes 1 (row-entries lower rest))
+Inv-loop buffer₀ place₀ lower row at₀ rest₀ buffer place rest = (rest < 2 ^ 64) × Unwritten buffer₀ place₀ (entry-bytes 1 (row-entries lower row)) buffer place (entry-bytes 1 (row-entries lower rest))
 
 abbrev μ-loop : tie.MeasureT-loop
 μ-loop buffer₀ place₀ lower row at₀ rest₀ buffer place rest = rest
 
 loop-holds : tie.Need-loop-holds Inv-loop μ-loop
-loop-holds c = (search needs, writing-start _ _ _ (c .before .pre))
+loop-holds c = (search needs, unwritten-all _ _ _)
 
 lowest-member-requires : tie.Need-lowest-member-requires Inv-loop μ-loop
 lowest-member-requires c κs = search needs
@@ -29,7 +29,8 @@ cast-higher c = search needs
 put-entry-requires : tie.Need-put-entry-requires Inv-loop μ-loop
 put-entry-requires c κs =
     let b = c .before in
-    member-room privilege-count 1 (λ n. record { key = b .before .before .before .before .args .lower; value = n }) (b .before .before .loop .inv .0) (b .before .loop-test .taken) (b .lowest-member .ensures) (b .before .before .loop .inv .1)
+    let s = b .before .before .before .before in
+    member-room privilege-count 1 (λ n. record { key = s .args .lower; value = n }) (b .before .before .loop .inv .0) (b .before .loop-test .taken) (b .lowest-member .ensures) (b .before .before .loop .inv .1) (s .pre)
 
 without-lowest-requires : tie.Need-without-lowest-requires Inv-loop μ-loop
 without-lowest-requires c κs = search needs
@@ -48,7 +49,7 @@ loop-again c =
     )
 
 same-length : tie.Need-same-length Inv-loop μ-loop
-same-length c = writing-length (c .before .loop .inv .1)
+same-length c = unwritten-length (c .before .loop .inv .1)
 
 returns : tie.Need-returns Inv-loop μ-loop
 returns c = members-written privilege-count 1 _ (c .loop-test .left) (c .before .loop .inv .1)

@@ -7,19 +7,19 @@ use Rattle.graph.specs.Tables.{at}
 use Rattle.seats.specs.Images.{entry-bytes}
 use Rattle.seats.specs.ImageWork.{table-entries}
 use Rattle.seats.proofs.Listing.{valued}
-use Rattle.seats.proofs.Writing.{Writing, writing-start, writing-length}
+use Rattle.seats.proofs.Written.{Unwritten, unwritten-all, unwritten-length}
 use Rattle.seats.proofs.MemberEntries.{member-room, member-written, members-written}
 use Rattle.seats.proofs.saving.put_table.Statement.{statement}
 use Rattle.seats.proofs.saving.put_table.Tie as tie
 
 abbrev Inv-loop : tie.InvT-loop
-Inv-loop buffer₀ place₀ keys table at₀ rest₀ buffer place rest = (rest < 2 ^ 64) × Writing buffer₀ place₀ (entry-bytes 8 (table-entries keys table)) buffer place (entry-bytes 8 (table-entries rest table))
+Inv-loop buffer₀ place₀ keys table at₀ rest₀ buffer place rest = (rest < 2 ^ 64) × Unwritten buffer₀ place₀ (entry-bytes 8 (table-entries keys table)) buffer place (entry-bytes 8 (table-entries rest table))
 
 abbrev μ-loop : tie.MeasureT-loop
 μ-loop buffer₀ place₀ keys table at₀ rest₀ buffer place rest = rest
 
 loop-holds : tie.Need-loop-holds Inv-loop μ-loop
-loop-holds c = (search needs, writing-start _ _ _ (c .before .before .pre))
+loop-holds c = (search needs, unwritten-all _ _ _)
 
 lowest-member-requires : tie.Need-lowest-member-requires Inv-loop μ-loop
 lowest-member-requires c κs = search needs
@@ -39,7 +39,8 @@ entry-requires c κs = search needs
 put-entry-requires : tie.Need-put-entry-requires Inv-loop μ-loop
 put-entry-requires c κs =
     let b = c .before .before in
-    member-room 64 8 (valued (at (b .before .before .before .before .before .args .table .now))) (b .before .before .loop .inv .0) (b .before .loop-test .taken) (b .lowest-member .ensures) (b .before .before .loop .inv .1)
+    let s = b .before .before .before .before .before in
+    member-room 64 8 (valued (at (s .args .table .now))) (b .before .before .loop .inv .0) (b .before .loop-test .taken) (b .lowest-member .ensures) (b .before .before .loop .inv .1) (s .pre)
 
 without-lowest-requires : tie.Need-without-lowest-requires Inv-loop μ-loop
 without-lowest-requires c κs = search needs
@@ -59,7 +60,7 @@ loop-again c =
     )
 
 same-length : tie.Need-same-length Inv-loop μ-loop
-same-length c = writing-length (c .before .loop .inv .1)
+same-length c = unwritten-length (c .before .loop .inv .1)
 
 returns : tie.Need-returns Inv-loop μ-loop
 returns c = members-written 64 8 _ (c .loop-test .left) (c .before .loop .inv .1)

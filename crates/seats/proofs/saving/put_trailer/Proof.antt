@@ -1,11 +1,9 @@
 -- `seats::saving::put_trailer` meets its contract: the four numbers are written one behind the other.
 -- Assumes nothing.
 use borrow.Author.Needs.{needs}
-use native.Mathlib.Omega.{arith}
 use Rattle.seats.specs.Bytes.{bytes-of}
 use Rattle.seats.specs.Images.{trailer}
-use Rattle.seats.proofs.ImageLength.{length-trailer}
-use Rattle.seats.proofs.Writing.{writing-start, writing-next, writing-last}
+use Rattle.seats.proofs.Written.{and-then}
 use Rattle.seats.proofs.saving.put_trailer.Statement.{statement}
 use Rattle.seats.proofs.saving.put_trailer.Tie as tie
 
@@ -37,13 +35,8 @@ returns c =
     let p3 = p4 .before .before .before .before in
     let p2 = p3 .before .before .before .before in
     let p1 = p2 .before .before .before .before in
-    let s = p1 .before .before .before .before in
     let far = rw (p1 .before .before .distance .ensures .0) at (p1 .put-number .ensures) in
-    let l = length-trailer (s .args .roles) (s .args .seats) (s .args .conflicts) in
-    let w1 = writing-next _ _ (writing-start _ (s .args .at) (trailer (s .args .roles) (s .args .seats) (s .args .conflicts)) (omega (arith, s .pre))) far in
-    let w2 = writing-next _ _ w1 (p2 .put-number2 .ensures) in
-    let w3 = writing-next _ _ w2 (p3 .put-number3 .ensures) in
-    writing-last _ w3 (p4 .put-number4 .ensures)
+    and-then far (and-then (p2 .put-number2 .ensures) (and-then (p3 .put-number3 .ensures) (p4 .put-number4 .ensures)))
 
 pub put-trailer-spec : {M : Type 1} → statement M
 put-trailer-spec =

@@ -3,40 +3,28 @@
 use native.Mathlib.Omega.{arith}
 use borrow.Author.Needs.{needs}
 use mathlib.Core.List.{List, _++_}
-use Prim.Native.Nat.{ℕ, _<_}
+use Prim.Native.Nat.{ℕ, _+_, _<_, _≤_}
 use Rattle.graph.specs.Tables.{at}
-use Rattle.graph.specs.Reading.{graph-of}
 use Rattle.sets.proofs.Laws.{size-bound}
+use lib.ListN.{length}
 use Rattle.seats.specs.Bytes.{bytes-of}
 use Rattle.seats.specs.Seats.{State}
 use Rattle.seats.specs.Images.{entry-bytes, trailer, image}
-use Rattle.seats.specs.Reading.{read-filled}
+use Rattle.seats.specs.Reading.{state-of, read-filled}
 use Rattle.seats.specs.ImageWork.{table-entries, pair-entries}
 use Rattle.seats.proofs.Numbers.{length-bytes-of}
 use Rattle.seats.proofs.ImageLength.{length-trailer}
-use Rattle.seats.proofs.Writing.{Writing, writing-room, piece-room, writing-next, writing-last}
-use Rattle.seats.proofs.SaveParts.{Counted, saves-nothing, saving-starts, saves-all}
+use Rattle.seats.proofs.Written.{Unwritten, unwritten-length, piece-room, unwritten-next, unwritten-last}
+use Rattle.seats.proofs.SaveParts.{Counted, saves-nothing, image-fits, image-left, saves-all}
 use Rattle.seats.proofs.saving.save.Statement.{statement}
 use Rattle.seats.proofs.saving.save.Tie as tie
 
--- ---- the state, and what is left to write after each part
+-- ---- the state, and the parts of its image
 abbrev state : tie.Start → State
-state c = record { graph = graph-of (c .args .roles) (c .args .sets .now) (c .args .conflicts .now); seats = c .args .seats .now }
+state c = state-of (c .args .roles) (c .args .sets .now) (c .args .conflicts .now) (c .args .seats .now)
 
 abbrev entered : tie.After-distance → tie.Start
 entered c = c .before .before .before .before .before .before .before .before .before .before
-
-abbrev roles-part : tie.After-distance → List ℕ
-roles-part c = entry-bytes 8 (table-entries (c .before .before .before .before .before .difference .result) (entered c .args .sets .now))
-
-abbrev conflicts-part : tie.After-distance → List ℕ
-conflicts-part c = entry-bytes 1 (pair-entries (entered c .args .conflicts .now))
-
-abbrev seats-part : tie.After-distance → List ℕ
-seats-part c = entry-bytes 8 (table-entries (c .before .before .before .before .occupied .result) (entered c .args .seats .now))
-
-abbrev trailer-part : tie.After-distance → List ℕ
-trailer-part c = trailer (c .before .before .before .size .result) (c .before .before .size2 .result) (c .before .count-conflicts .result)
 
 counted : (c : tie.After-distance) → Counted (state (entered c)) (c .before .before .before .before .before .difference .result) (c .before .before .before .before .occupied .result) (c .before .before .before .size .result) (c .before .before .size2 .result) (c .before .count-conflicts .result) (c .distance .result)
 counted c = record {
@@ -48,41 +36,60 @@ counted c = record {
   far-is = c .distance .ensures .0;
 }
 
--- ---- what each call of a writer leaves
-abbrev top-counted : tie.After-put-number → tie.After-distance
-top-counted c = c .before .before .before .before
+-- Where the buffer has room.
+module _ (c : tie.Else1) where
+  abbrev start : tie.Start
+  start = entered (c .before)
 
-abbrev roles-counted : tie.After-put-table → tie.After-distance
-roles-counted c = top-counted (c .before .before .before .before)
+  abbrev top-part : List ℕ
+  top-part = bytes-of 8 (at (start .args .sets .now) 1)
 
-abbrev conflicts-counted : tie.After-put-conflicts → tie.After-distance
-conflicts-counted c = roles-counted (c .before .before .before .before)
+  abbrev roles-part : List ℕ
+  roles-part = entry-bytes 8 (table-entries (c .before .before .before .before .before .before .difference .result) (start .args .sets .now))
 
-abbrev seats-counted : tie.After-put-table2 → tie.After-distance
-seats-counted c = conflicts-counted (c .before .before .before .before)
+  abbrev conflicts-part : List ℕ
+  conflicts-part = entry-bytes 1 (pair-entries (start .args .conflicts .now))
 
--- What was written of the image of the state, with this buffer, place and rest.
-abbrev Wrote-so-far : tie.After-distance → List ℕ → ℕ → List ℕ → Type 0
-Wrote-so-far c buffer place rest = Writing (entered c .args .buffer .now) 0 (image (state (entered c))) buffer place rest
+  abbrev seats-part : List ℕ
+  seats-part = entry-bytes 8 (table-entries (c .before .before .before .before .before .occupied .result) (start .args .seats .now))
 
--- What is written behind the end roles' sets.
-abbrev rest-part : tie.After-distance → List ℕ
-rest-part c = roles-part c ++ (conflicts-part c ++ (seats-part c ++ trailer-part c))
+  abbrev trailer-part : List ℕ
+  trailer-part = trailer (c .before .before .before .before .size .result) (c .before .before .before .size2 .result) (c .before .before .count-conflicts .result)
 
-starts : (c : tie.Else1) → Wrote-so-far (c .before) (entered (c .before) .args .buffer .now) 0 (bytes-of 8 (at (entered (c .before) .args .sets .now) 1) ++ rest-part (c .before))
-starts c = saving-starts (counted (c .before)) _ (c .if1 .left)
+  -- With this buffer and place, the rest is left to write.
+  abbrev Left : List ℕ → ℕ → List ℕ → Type 0
+  Left buffer place rest = Unwritten (start .args .buffer .now) 0 (image (state start)) buffer place rest
 
-top-written : (c : tie.After-put-number) → Wrote-so-far (top-counted c) (c .put-number .last .0) (c .put-number .result) (rest-part (top-counted c))
-top-written c = writing-next (bytes-of 8 (at (entered (top-counted c) .args .sets .now) 1)) _ (starts (c .before .before .before)) (rw (c .before .entry .ensures) at (c .put-number .ensures))
+  fits : 0 + length (image (state start)) ≤ length (start .args .buffer .now)
+  fits = image-fits (counted (c .before)) (start .args .buffer .now) (c .if1 .left)
 
-roles-written : (c : tie.After-put-table) → Wrote-so-far (roles-counted c) (c .put-table .last .0) (c .put-table .result) (conflicts-part (roles-counted c) ++ (seats-part (roles-counted c) ++ trailer-part (roles-counted c)))
-roles-written c = writing-next (roles-part (roles-counted c)) _ (top-written (c .before .before .before .before)) (c .put-table .ensures)
+  all-left : Left (start .args .buffer .now) 0 (top-part ++ (roles-part ++ (conflicts-part ++ (seats-part ++ trailer-part))))
+  all-left = image-left (counted (c .before)) _
 
-conflicts-written : (c : tie.After-put-conflicts) → Wrote-so-far (conflicts-counted c) (c .put-conflicts .last .0) (c .put-conflicts .result) (seats-part (conflicts-counted c) ++ trailer-part (conflicts-counted c))
-conflicts-written c = writing-next (conflicts-part (conflicts-counted c)) _ (roles-written (c .before .before .before .before)) (c .put-conflicts .ensures)
+-- ---- what each writer leaves
+abbrev top-from : tie.After-put-number → tie.Else1
+top-from c = c .before .before .before
 
-seats-written : (c : tie.After-put-table2) → Wrote-so-far (seats-counted c) (c .put-table2 .last .0) (c .put-table2 .result) (trailer-part (seats-counted c))
-seats-written c = writing-next (seats-part (seats-counted c)) _ (conflicts-written (c .before .before .before .before)) (c .put-table2 .ensures)
+abbrev roles-from : tie.After-put-table → tie.Else1
+roles-from c = top-from (c .before .before .before .before)
+
+abbrev conflicts-from : tie.After-put-conflicts → tie.Else1
+conflicts-from c = roles-from (c .before .before .before .before)
+
+abbrev seats-from : tie.After-put-table2 → tie.Else1
+seats-from c = conflicts-from (c .before .before .before .before)
+
+top-written : (c : tie.After-put-number) → let o = top-from c in Left o (c .put-number .last .0) (c .put-number .result) (roles-part o ++ (conflicts-part o ++ (seats-part o ++ trailer-part o)))
+top-written c = unwritten-next (top-part (top-from c)) _ (all-left (top-from c)) (rw (c .before .entry .ensures) at (c .put-number .ensures))
+
+roles-written : (c : tie.After-put-table) → let o = roles-from c in Left o (c .put-table .last .0) (c .put-table .result) (conflicts-part o ++ (seats-part o ++ trailer-part o))
+roles-written c = unwritten-next (roles-part (roles-from c)) _ (top-written (c .before .before .before .before)) (c .put-table .ensures)
+
+conflicts-written : (c : tie.After-put-conflicts) → let o = conflicts-from c in Left o (c .put-conflicts .last .0) (c .put-conflicts .result) (seats-part o ++ trailer-part o)
+conflicts-written c = unwritten-next (conflicts-part (conflicts-from c)) _ (roles-written (c .before .before .before .before)) (c .put-conflicts .ensures)
+
+seats-written : (c : tie.After-put-table2) → Left (seats-from c) (c .put-table2 .last .0) (c .put-table2 .result) (trailer-part (seats-from c))
+seats-written c = unwritten-next (seats-part (seats-from c)) _ (conflicts-written (c .before .before .before .before)) (c .put-table2 .ensures)
 
 difference-requires : tie.Need-difference-requires
 difference-requires c κs = search needs
@@ -117,36 +124,41 @@ few c =
 distance-requires : tie.Need-distance-requires
 distance-requires c κs = few c
 
+too-short-requires : tie.Need-too-short-requires
+too-short-requires c κs = search needs
+
 returns : tie.Need-returns
-unfolding read-filled
-returns c = saves-nothing (counted (c .before)) _ (c .if1 .taken)
+returns c = rw (c .too-short .ensures) (saves-nothing (counted (c .before .before)) _ (c .before .if1 .taken))
 
 entry-requires : tie.Need-entry-requires
 entry-requires c κs = search needs
 
 put-number-requires : tie.Need-put-number-requires
 put-number-requires c κs =
-    let w = starts (c .before .before) in
-    let top = at (entered (c .before .before .before) .args .sets .now) 1 in
-    let l = length-bytes-of 8 top in
-    let h = piece-room (bytes-of 8 top) _ w in
+    let o = c .before .before in
+    let l = length-bytes-of 8 (at (start o .args .sets .now) 1) in
+    let h = piece-room (top-part o) _ (all-left o) (fits o) in
     omega arith
 
 put-table-requires : tie.Need-put-table-requires
-put-table-requires c κs = let b = c .before .before .before in piece-room (roles-part (top-counted b)) _ (top-written b)
+put-table-requires c κs = let b = c .before .before .before in piece-room (roles-part (top-from b)) _ (top-written b) (fits (top-from b))
 
 put-conflicts-requires : tie.Need-put-conflicts-requires
-put-conflicts-requires c κs = let b = c .before .before .before in piece-room (conflicts-part (roles-counted b)) _ (roles-written b)
+put-conflicts-requires c κs = let b = c .before .before .before in piece-room (conflicts-part (roles-from b)) _ (roles-written b) (fits (roles-from b))
 
 put-table-requires-2 : tie.Need-put-table-requires-2
-put-table-requires-2 c κs = let b = c .before .before .before in piece-room (seats-part (conflicts-counted b)) _ (conflicts-written b)
+put-table-requires-2 c κs = let b = c .before .before .before in piece-room (seats-part (conflicts-from b)) _ (conflicts-written b) (fits (conflicts-from b))
 
 put-trailer-requires : tie.Need-put-trailer-requires
 put-trailer-requires c κs =
     let b = c .before .before .before in
-    let l = length-trailer (seats-counted b .before .before .before .size .result) (seats-counted b .before .before .size2 .result) (seats-counted b .before .count-conflicts .result) in
-    let r = writing-room (seats-written b) in
-    let (h, k, m) = few (seats-counted b .before) in
+    let o = seats-from b in
+    let l = length-trailer (o .before .before .before .before .size .result) (o .before .before .before .size2 .result) (o .before .before .count-conflicts .result) in
+    let u = seats-written b in
+    let p = u .place in
+    let n = unwritten-length u in
+    let f = fits o in
+    let (h, k, m) = few (o .before .before) in
     (omega arith, h, k, m)
 
 same-length : tie.Need-same-length
@@ -157,8 +169,8 @@ unfolding read-filled
 returns-2 c =
     let p = c .before .before in
     let b = p .before .before .before .before in
-    let d = seats-counted b in
-    saves-all (counted d) _ (p .before .before .before .before .before .before .before .before .before .before .before .before .before .before .before .before .before .before .before .if1 .left) (writing-last _ (seats-written b) (p .put-trailer .ensures))
+    let o = seats-from b in
+    saves-all (counted (o .before)) _ (o .if1 .left) (unwritten-last _ (seats-written b) (p .put-trailer .ensures))
 
 pub save-spec : {M : Type 1} → statement M
 save-spec =
@@ -172,6 +184,7 @@ save-spec =
     cast-s
     count-conflicts-requires
     distance-requires
+    too-short-requires
     returns
     entry-requires
     put-number-requires

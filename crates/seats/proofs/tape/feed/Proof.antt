@@ -3,7 +3,7 @@
 use borrow.Author.Needs.{needs}
 use borrow.Author.Tests.{not-true, not-false}
 use mathlib.Core.Path.{_∙_}
-use Rattle.seats.specs.Reading.{read-state, read-filled}
+use Rattle.seats.specs.Reading.{read-state}
 use Rattle.seats.proofs.Feeding.{feed-refused, feed-bounds, feed-run}
 use Rattle.seats.proofs.tape.feed.Statement.{statement}
 use Rattle.seats.proofs.tape.feed.Tie as tie
@@ -14,14 +14,18 @@ record-count-requires c κs = search needs
 can-feed-requires : tie.Need-can-feed-requires
 can-feed-requires c κs = search needs
 
+too-short-requires : tie.Need-too-short-requires
+too-short-requires c κs = search needs
+
 returns : tie.Need-returns
-unfolding read-filled
 returns c =
-    let s = c .before .before .before .before .before .args in
-    feed-refused (read-state (s .state)) (s .count) (s .part .now) (s .buffer .now)
-    (c .before .can-feed .ensures)
-    (c .before .before .record-count .ensures)
-    (not-true _ (c .if1 .taken))
+    let a = c .before in
+    let s = a .before .before .before .before .before .args in
+    rw (c .too-short .ensures)
+    (feed-refused (read-state (s .state)) (s .count) (s .part .now) (s .buffer .now)
+    (a .before .can-feed .ensures)
+    (a .before .before .record-count .ensures)
+    (not-true _ (a .if1 .taken)))
 
 run-requires : tie.Need-run-requires
 run-requires c κs =
@@ -48,4 +52,4 @@ returns-2 c =
 pub feed-spec : {M : Type 1} → statement M
 feed-spec =
     tie.close
-    (tie.spec record-count-requires can-feed-requires returns run-requires same-length returns-2)
+    (tie.spec record-count-requires can-feed-requires too-short-requires returns run-requires same-length returns-2)

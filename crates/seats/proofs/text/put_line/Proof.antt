@@ -1,32 +1,44 @@
 -- `text::put_line` meets its contract: the index and its tail, of 20, 3 and 3 digits at the most.
 -- Assumes nothing.
 use borrow.Author.Needs.{needs}
-use mathlib.Core.Path.{refl}
+use mathlib.Core.Path.{refl, _∙_}
+use Prim.Native.Nat.{_≤_}
+use lib.ListN.{length}
 use native.Mathlib.Omega.{arith}
 use mathlib.Core.List.{[]}
 use Rattle.seats.specs.Tape.{digits}
 use Rattle.seats.specs.Reading.{read-answer}
 use Rattle.seats.proofs.Digits.{width-word, width-byte}
-use Rattle.seats.proofs.Putting.{and-then, line-joined, length-joined}
+use Rattle.seats.proofs.Written.{and-then}
+use Rattle.seats.proofs.Lines.{line-joined, length-joined}
 use Rattle.seats.proofs.text.put_line.Statement.{statement}
 use Rattle.seats.proofs.text.put_line.Tie as tie
+
+-- How long the three numbers are at the most.
+widths : (a : tie.After-wide2) → let s = a .before .before .before .before .before in
+    (length (digits (s .args .index)) ≤ 20) × (length (digits (a .before .before .wide .result)) ≤ 3) × (length (digits (a .wide2 .result)) ≤ 3)
+widths a =
+    let s = a .before .before .before .before .before in
+    let n = a .before .before .wide in
+    (width-word (s .args .index) (s .fits .index .fits), width-byte (n .result) (n .ensures .1), width-byte (a .wide2 .result) (a .wide2 .ensures .1))
 
 number-of-requires : tie.Need-number-of-requires
 number-of-requires c κs = search needs
 
+wide-requires : tie.Need-wide-requires
+wide-requires c κs = search needs
+
 place-of-requires : tie.Need-place-of-requires
 place-of-requires c κs = search needs
 
-number-requires : tie.Need-number-requires
-number-requires c κs =
-    let s = c .before .before .before .before in
-    omega (arith, width-word (s .args .index) (s .fits .index .fits))
+wide-requires-2 : tie.Need-wide-requires-2
+wide-requires-2 c κs = search needs
+
+put-digits-requires : tie.Need-put-digits-requires
+put-digits-requires c κs = let (x, y, z) = widths (c .before) in omega arith
 
 tail-requires : tie.Need-tail-requires
-tail-requires c κs =
-    let a = c .before .before .before .before .before in
-    let s = a .before .before .before in
-    omega (arith, width-word (s .args .index) (s .fits .index .fits), width-byte (a .before .number-of .result) (a .before .number-of .ensures .1), width-byte (a .place-of .result) (a .place-of .ensures .1))
+tail-requires c κs = let (x, y, z) = widths (c .before .before .before .before .before) in omega arith
 
 same-length : tie.Need-same-length
 same-length c = search needs
@@ -36,23 +48,25 @@ returns c =
     let d = c .before .before in
     let b = d .before .before .before .before in
     let a = b .before .before in
-    let s = a .before .before .before in
+    let n = a .before .before in
+    let s = n .before .before .before in
     let i = s .args .index in
-    let n = a .before .number-of in
-    let p = a .place-of in
-    let e = line-joined i (read-answer (s .args .answer)) (n .ensures .0) (p .ensures .0) in
-    let w = and-then (b .number .ensures) (d .tail .ensures) in
-    let l = length-joined [] _ (digits i) (n .result) (p .result) refl in
-    let j = w .next in
-    (rw e w, omega (arith, width-word i (s .fits .index .fits), width-byte (n .result) (n .ensures .1), width-byte (p .result) (p .ensures .1)))
+    let e = line-joined i (read-answer (s .args .answer)) (n .wide .ensures .0 ∙ n .before .number-of .ensures) (a .wide2 .ensures .0 ∙ a .before .place-of .ensures) in
+    let w = and-then (b .put-digits .ensures) (d .tail .ensures) in
+    let l = length-joined [] _ (digits i) (n .wide .result) (a .wide2 .result) refl in
+    let j = w .place in
+    let (x, y, z) = widths a in
+    (rw e w, omega arith)
 
 pub put-line-spec : {M : Type 1} → statement M
 put-line-spec =
     tie.close
     (tie.spec
     number-of-requires
+    wide-requires
     place-of-requires
-    number-requires
+    wide-requires-2
+    put-digits-requires
     tail-requires
     same-length
     returns)

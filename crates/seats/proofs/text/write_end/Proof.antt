@@ -4,15 +4,16 @@ use borrow.Author.Needs.{needs}
 use mathlib.Core.List.{[], _∷_}
 use native.Mathlib.Omega.{arith}
 use Rattle.seats.specs.Reading.{read-filled}
-use Rattle.seats.proofs.Putting.{and-then, end-joined, line-filled, line-unfilled}
+use Rattle.seats.proofs.Written.{and-then}
+use Rattle.seats.proofs.Lines.{end-joined, line-filled, line-unfilled}
 use Rattle.seats.proofs.text.write_end.Statement.{statement}
 use Rattle.seats.proofs.text.write_end.Tie as tie
 
-width-requires : tie.Need-width-requires
-width-requires c κs = search needs
+digit-count-requires : tie.Need-digit-count-requires
+digit-count-requires c κs = search needs
 
-width-requires-2 : tie.Need-width-requires-2
-width-requires-2 c κs = search needs
+digit-count-requires-2 : tie.Need-digit-count-requires-2
+digit-count-requires-2 c κs = search needs
 
 add-if1 : tie.Need-add-if1
 add-if1 c = search needs
@@ -20,20 +21,22 @@ add-if1 c = search needs
 add-if1-2 : tie.Need-add-if1-2
 add-if1-2 c = search needs
 
+too-short-requires : tie.Need-too-short-requires
+too-short-requires c κs = search needs
+
 returns : tie.Need-returns
-unfolding read-filled
 returns c =
-    let s = c .before .before .before .before .args in
-    line-unfilled (s .buffer .now) _ (101 ∷ 110 ∷ 100 ∷ []) _ _ (end-joined (s .count) (s .edges)) (omega arith)
+    let s = c .before .before .before .before .before .args in
+    rw (c .too-short .ensures) (line-unfilled (s .buffer .now) _ (101 ∷ 110 ∷ 100 ∷ []) _ _ (end-joined (s .count) (s .edges)) (omega arith))
 
-put-requires : tie.Need-put-requires
-put-requires c κs = search needs
+put-byte-requires : tie.Need-put-byte-requires
+put-byte-requires c κs = search needs
 
-put-requires-2 : tie.Need-put-requires-2
-put-requires-2 c κs = search needs
+put-byte-requires-2 : tie.Need-put-byte-requires-2
+put-byte-requires-2 c κs = search needs
 
-put-requires-3 : tie.Need-put-requires-3
-put-requires-3 c κs = search needs
+put-byte-requires-3 : tie.Need-put-byte-requires-3
+put-byte-requires-3 c κs = search needs
 
 tail-requires : tie.Need-tail-requires
 tail-requires c κs = search needs
@@ -49,20 +52,21 @@ returns-2 c =
     let a = b .before .before .before .before in
     let s = a .before .before .before .before .before .before .args in
     line-filled (s .buffer .now) _ (101 ∷ 110 ∷ 100 ∷ []) _ _ (end-joined (s .count) (s .edges)) (omega arith)
-    (and-then (a .put .ensures) (and-then (b .put2 .ensures) (and-then (d .put3 .ensures) (c .before .before .tail .ensures))))
+    (and-then (a .put-byte .ensures) (and-then (b .put-byte2 .ensures) (and-then (d .put-byte3 .ensures) (c .before .before .tail .ensures))))
 
 pub write-end-spec : {M : Type 1} → statement M
 write-end-spec =
     tie.close
     (tie.spec
-    width-requires
-    width-requires-2
+    digit-count-requires
+    digit-count-requires-2
     add-if1
     add-if1-2
+    too-short-requires
     returns
-    put-requires
-    put-requires-2
-    put-requires-3
+    put-byte-requires
+    put-byte-requires-2
+    put-byte-requires-3
     tail-requires
     same-length
     returns-2)
