@@ -72,6 +72,15 @@ pub fn roles_at(table: &[u64], n: usize) -> u64
     if n < table.len() { table[n] } else { 0 }
 }
 
+// Stores entry n of a table of role sets; beyond its end nothing.
+pub fn store_roles(table: &mut [u64], n: usize, s: u64)
+    ensures { λ _. ⌜ now (table .exit) ≡ set (now (table .entry)) n s ⌝ }
+{
+    if n < table.len() {
+        table[n] = s;
+    }
+}
+
 // In the set of each role of `into`, takes the members of `out` away and joins those of `put`.
 pub(crate) fn exchange_sets(table: &mut SetTable, into: u64, out: PrivilegeSet, put: PrivilegeSet)
     ensures { λ _. ⌜ sets-in (now (table .exit)) ≡ spec.table role-count (λ r. union (difference (spec.at (sets-in (now (table .entry))) r) (when (member r into) (read-set out))) (when (member r into) (read-set put))) ⌝ }

@@ -1,7 +1,7 @@
 -- What requests come to, by the verdict on their checks; what they store; and what a seat has and holds where a role is added to some seat.
 -- Assumes nothing.
 use mathlib.Core.Path.{_≡_, refl, sym, ap, _∙_, subst}
-use mathlib.Core.Bool.{Bool, true, false, _&&_, _||_}
+use mathlib.Core.Bool.{Bool, true, false, not, _&&_, _||_}
 use mathlib.Core.List.{List, [], _∷_}
 use mathlib.Core.Logic.{_≢_}
 use Prim.Native.Nat.{ℕ, max, _<_}
@@ -15,14 +15,14 @@ use lib.Seq.{getD-set-same, getD-set-other, set-out}
 use Rattle.sets.specs.Counting.{any}
 use Rattle.sets.specs.Sets.{digit, member, single, union, when, gather}
 use Rattle.sets.proofs.Laws.{member-empty, member-union, member-when, member-single, gather-cong, union-empty}
-use Rattle.graph.specs.Tables.{at, put, stored}
+use Rattle.graph.specs.Tables.{at, put}
 use Rattle.graph.specs.Graph.{Graph, role-count, privilege-count}
 use Rattle.graph.specs.Conflicts.{holds-both, holds-pair}
-use Rattle.graph.specs.Refusing.{Check, Verdict, passed, verdict, no-role-number, end-role, role-absent, declare-checks, lift-checks}
+use Rattle.graph.specs.Refusing.{Check, refuse, refuse-lowest, Verdict, passed, verdict, no-role-number, end-role, role-absent, declare-checks}
 use Rattle.graph.specs.Refusing as refusing
 use Rattle.graph.proofs.Refusals.{Passes, passed-passes, number-lt}
-use Rattle.seats.specs.Seats.{State, seat-count}
-use Rattle.seats.specs.Calls.{Call, refused, no-seat-number, checks, after, reply, settle, perform}
+use Rattle.seats.specs.Seats.{State, seat-count, assigned, pair-seat}
+use Rattle.seats.specs.Calls.{Call, assign, refused, no-seat-number, checks, after, reply, settle, perform}
 
 -- ---- verdicts
 module _ (s : State) (c : Call) where
@@ -36,18 +36,8 @@ module _ (s : State) (c : Call) where
   unfolding perform settle
   passed-by e = ap (λ (v : Verdict). settle v (reply s c) s (after s c)) e
 
--- ---- what is stored
--- The number 64 stands for no entry.
-pub none-stored : (l : List ℕ) {n : ℕ} (v : ℕ) → n ≡ 64 → stored l n v ≡ l
-unfolding stored
-none-stored l v e = rw e
-
--- Another number stands for its entry.
-pub entry-stored : (l : List ℕ) {n : ℕ} (v : ℕ) → n < 64 → stored l n v ≡ set l n v
-unfolding stored
-entry-stored l v h = rw (lt-ltb _ 64 h)
-
--- Two numbers that kind 8 or 9 does not refuse are privileges.
+-- ---- numbers that are not refused
+-- Two numbers that kind 8 does not refuse are privileges.
 pub declare-numbers : (g : Graph) (a b : ℕ) → verdict (declare-checks g a b) ≡ passed → max a b < privilege-count
 unfolding Passes declare-checks
 declare-numbers g a b e =
@@ -56,17 +46,17 @@ declare-numbers g a b e =
     let l = number-lt privilege-count b y in
     omega arith
 
-pub lift-numbers : (g : Graph) (a b : ℕ) → verdict (lift-checks g a b) ≡ passed → max a b < privilege-count
-unfolding Passes lift-checks
-lift-numbers g a b e =
-    let (x, (y, _)) = passed-passes (lift-checks g a b) e in
-    let k = number-lt privilege-count a x in
-    let l = number-lt privilege-count b y in
-    omega arith
-
 -- What judges a seat and a role by their numbers and the roles present.
 abbrev pub seat-role-checks : Graph → ℕ → ℕ → List Check
 seat-role-checks g a b = no-seat-number a ∷ no-role-number b ∷ end-role b ∷ role-absent g b ∷ []
+
+-- What judges kind 10 after these.
+abbrev pub assign-late : State → ℕ → ℕ → List Check
+assign-late s a b = refuse 22 (assigned s a b) a ∷ refuse-lowest 30 seat-count (pair-seat (after s (assign a b))) ∷ []
+
+-- What judges kind 11 after these.
+abbrev pub unassign-late : State → ℕ → ℕ → List Check
+unassign-late s a b = refuse 23 (not (assigned s a b)) a ∷ []
 
 -- A seat and a role that these do not refuse have their numbers.
 pub seat-numbers : (g : Graph) (a b : ℕ) → verdict (seat-role-checks g a b) ≡ passed → (a < seat-count) × (b < role-count)

@@ -1,10 +1,10 @@
 -- How the code's values are read as the paper's: states, calls, answers, and what filling a buffer answers.
 use mathlib.Core.List.{List}
 use Prim.Native.Nat.{ℕ}
-use Rattle.graph.specs.Tables.{stored}
-use Rattle.graph.specs.Reading.{graph-of, read-change}
+use lib.ListN.{set}
+use Rattle.graph.specs.Reading.{read-set, graph-of, read-change}
 use Rattle.seats.specs.Seats.{State}
-use Rattle.seats.specs.Calls.{Call, change, declare, lift, assign, unassign, ask, Answer, accepted, answered, refused}
+use Rattle.seats.specs.Calls.{Call, change, declare, lift, assign, unassign, ask, Answer, accepted, answered, refused, with-conflicts, with-seats}
 use Rattle.seats.specs.Records.{Decoded, malformed, well-formed}
 use Rattle.seats.specs.Bytes.{Filled, written, too-short}
 use Rattle.seats.specs.declared.State as state-struct
@@ -16,6 +16,8 @@ use Rattle.seats.specs.declared.Decoded as decoded-enum
 use Rattle.seats.specs.declared.Decoded.the-variants as decodings
 use Rattle.seats.specs.declared.Answer as answer-enum
 use Rattle.seats.specs.declared.Answer.the-variants as answers
+use Rattle.seats.specs.declared.Stored as stored-enum
+use Rattle.seats.specs.declared.Stored.the-variants as storings
 use Rattle.seats.specs.declared.Decision as decision-struct
 use Rattle.seats.specs.declared.Changed as changed-struct
 use Rattle.seats.specs.declared.Fed as fed-struct
@@ -59,15 +61,15 @@ unfoldable pub read-filled : filled-enum.Filled → Filled
 read-filled (fillings.Written n) = written n
 read-filled (fillings.TooShort r) = too-short (r .number) (r .place)
 
--- The state with the entries stored that a decision changes.
-abbrev pub decided : State → decision-struct.Decision → State
-decided s d =
-    state-of (s .graph .roles) (s .graph .sets) (stored (s .graph .conflicts) (d .conflict .number) (d .conflict .set))
-    (stored (s .seats) (d .seat .number) (d .seat .set))
+-- The state with what a decision stores: nothing, the conflicts of a privilege, or the roles of a seat.
+unfoldable pub stored : State → stored-enum.Stored → State
+stored s storings.Nothing = s
+stored s (storings.ConflictsOf e) = with-conflicts s (set (s .graph .conflicts) (e .lower) (read-set (e .higher)))
+stored s (storings.RolesOf e) = with-seats s (set (s .seats) (e .seat) (e .roles))
 
 -- What a request comes to: its answer, and the state after it.
 abbrev pub read-decision : State → decision-struct.Decision → Answer × State
-read-decision s d = (read-answer (d .answer), decided s d)
+read-decision s d = (read-answer (d .answer), stored s (d .stored))
 
 -- An accepted change has the state h; any other answer leaves s.
 unfoldable pub outcome : Answer → State → State → Answer × State

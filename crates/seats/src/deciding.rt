@@ -1,4 +1,4 @@
-// Kinds 8 to 12 decided on borrowed tables: the answer, and the entry that changes.
+// Kinds 8 to 12 decided on borrowed tables: the answer, and what is stored.
 ghost use mathlib.Core.Path.{_≡_};
 ghost use mathlib.Core.List.{[], _∷_};
 ghost use Rattle.graph.specs.Refusing.{verdict, no-role-number, end-role, role-absent};
@@ -10,24 +10,18 @@ use crate::Answer;
 use crate::Decision;
 use crate::Request;
 use crate::Seat;
+use crate::SeatEntry;
+use crate::Stored;
 use crate::answers::refusal;
 use crate::searches;
 use crate::seating;
-use graph::Entry;
 use graph::Privilege;
 use graph::Role;
 use graph::Verdict;
-use graph::checking;
 use graph::declaring;
+use graph::refusing;
 use graph::refusing::refuse;
-use graph::table::entry;
-
-// No entry.
-fn none() -> Entry
-    ensures { λ e. ⌜ e .number ≡ 64 ⌝ }
-{
-    Entry { number: 64, set: 0 }
-}
+use graph::table::roles_at;
 
 // An answer that changes nothing.
 fn unchanged(answer: Answer) -> Decision
@@ -35,8 +29,7 @@ fn unchanged(answer: Answer) -> Decision
 {
     Decision {
         answer,
-        conflict: none(),
-        seat: none(),
+        stored: Stored::Nothing,
     }
 }
 
@@ -59,10 +52,10 @@ fn decide_declare<'a>(
             if place < 64 {
                 return unchanged(refusal(30, place));
             }
+            let entry = declaring::with_conflict(conflicts, a, b);
             Decision {
                 answer: Answer::Accepted,
-                conflict: declaring::declared(conflicts, a, b),
-                seat: none(),
+                stored: Stored::ConflictsOf(entry),
             }
         }
     }
@@ -82,11 +75,13 @@ fn decide_lift<'a>(
     let verdict = declaring::judge_lift(conflicts, a, b);
     match verdict {
         Verdict::Refused(found) => unchanged(Answer::Refused(found)),
-        Verdict::Passed => Decision {
-            answer: Answer::Accepted,
-            conflict: declaring::lifted(conflicts, a, b),
-            seat: none(),
-        },
+        Verdict::Passed => {
+            let entry = declaring::without_conflict(conflicts, a, b);
+            Decision {
+                answer: Answer::Accepted,
+                stored: Stored::ConflictsOf(entry),
+            }
+        }
     }
 }
 
@@ -97,7 +92,7 @@ fn judge_seat(roles: u64, a: Seat, b: Role) -> Verdict
     if 64 <= a.0 {
         return refuse(2, a.0);
     }
-    checking::judge_role(roles, b)
+    refusing::judge_role(roles, b)
 }
 
 // Kind 10.
@@ -115,9 +110,9 @@ fn decide_assign<'a>(
     match verdict {
         Verdict::Refused(found) => unchanged(Answer::Refused(found)),
         Verdict::Passed => {
-            let number = a.0 as usize;
+            let seat = a.0 as usize;
             let r = b.0 as usize;
-            let own = entry(seats, number);
+            let own = roles_at(seats, seat);
             if sets::member(r, own) {
                 return unchanged(refusal(22, a.0));
             }
@@ -125,11 +120,11 @@ fn decide_assign<'a>(
             if place < 64 {
                 return unchanged(refusal(30, place));
             }
-            let set = sets::insert(own, r);
+            let roles = sets::insert(own, r);
+            let entry = SeatEntry { seat, roles };
             Decision {
                 answer: Answer::Accepted,
-                conflict: none(),
-                seat: Entry { number, set },
+                stored: Stored::RolesOf(entry),
             }
         }
     }
@@ -150,17 +145,17 @@ fn decide_unassign<'a>(
     match verdict {
         Verdict::Refused(found) => unchanged(Answer::Refused(found)),
         Verdict::Passed => {
-            let number = a.0 as usize;
+            let seat = a.0 as usize;
             let r = b.0 as usize;
-            let own = entry(seats, number);
+            let own = roles_at(seats, seat);
             if !sets::member(r, own) {
                 return unchanged(refusal(23, a.0));
             }
-            let set = sets::remove(own, r);
+            let roles = sets::remove(own, r);
+            let entry = SeatEntry { seat, roles };
             Decision {
                 answer: Answer::Accepted,
-                conflict: none(),
-                seat: Entry { number, set },
+                stored: Stored::RolesOf(entry),
             }
         }
     }

@@ -17,7 +17,7 @@ pub mod text;
 mod writing;
 
 use graph::Change;
-use graph::Entry;
+use graph::ConflictEntry;
 use graph::Privilege;
 use graph::Refusal;
 use graph::Role;
@@ -66,11 +66,23 @@ pub enum Answer {
     Refused(Refusal),
 }
 
-// What a request comes to: its answer, and the entry of the conflicts and of the seats that it changes.
+// The roles of a seat.
+pub struct SeatEntry {
+    pub seat: usize,
+    pub roles: u64,
+}
+
+// What a request stores: nothing, the conflicts of a privilege, or the roles of a seat.
+pub enum Stored {
+    Nothing,
+    ConflictsOf(ConflictEntry),
+    RolesOf(SeatEntry),
+}
+
+// What a request comes to: its answer, and what it stores.
 pub struct Decision {
     pub answer: Answer,
-    pub conflict: Entry,
-    pub seat: Entry,
+    pub stored: Stored,
 }
 
 // What a change comes to: its answer, and where it is accepted the roles and sets after it.

@@ -21,6 +21,7 @@ use crate::endian::wide;
 use crate::endian::word;
 use graph::Change;
 use graph::Privilege;
+use graph::PrivilegeSet;
 use graph::Role;
 
 // How many bytes a record has.
@@ -79,10 +80,11 @@ fn requested(b: u8, rest: bool, request: Request) -> Decoded
 fn named(kind: u8, a: u8, b: u8, x: u64, y: u64, z: u64) -> Decoded
     ensures { λ r. ⌜ read-decoded r ≡ getD (malformed ∷ kinds (fields-of a b x y z)) kind malformed ⌝ }
 {
+    let own = PrivilegeSet { word: x };
     let none = unused(x, y, z);
     match kind {
-        1 => changed(b, 0, true, Change::AddByPlace(Role(a), x, y, z)),
-        2 => changed(b, 0, unused(0, y, z), Change::AddByPrivileges(Role(a), x)),
+        1 => changed(b, 0, true, Change::AddByPlace(Role(a), own, y, z)),
+        2 => changed(b, 0, unused(0, y, z), Change::AddByPrivileges(Role(a), own)),
         3 => changed(b, 1, none, Change::RemoveRole(Role(a), b)),
         4 => changed(b, 255, none, Change::Grant(Role(a), Privilege(b))),
         5 => changed(b, 255, none, Change::Withdraw(Role(a), Privilege(b))),

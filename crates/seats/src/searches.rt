@@ -7,15 +7,16 @@ ghost use Rattle.sets.specs.Sets.{member, union, when, gather};
 ghost use Rattle.graph.specs.Tables.{at, put};
 ghost use Rattle.graph.specs.Graph.{role-count};
 ghost use Rattle.graph.specs.Conflicts.{holds-pair};
+ghost use Rattle.graph.specs.Reading.{sets-in};
 ghost use Rattle.seats.specs.Seats.{seat-count, pair-seat, offered-seat};
 ghost use Rattle.seats.specs.Reading.{state-of};
 use crate::Seat;
 use graph::Privilege;
 use graph::Role;
-use graph::refusing::holds_both;
-use graph::refusing::holds_pair;
-use graph::table::entry;
-use graph::table::gathered;
+use graph::searching::holds_both;
+use graph::searching::holds_pair;
+use graph::table::roles_at;
+use graph::table::union_at;
 
 // The lowest seat that has the role.
 pub(crate) fn holder(seats: &[u64], role: Role) -> u8
@@ -23,7 +24,7 @@ pub(crate) fn holder(seats: &[u64], role: Role) -> u8
 {
     let r = role.0 as usize;
     for i in 0..64u8 {
-        if sets::member(r, entry(seats, i as usize)) {
+        if sets::member(r, roles_at(seats, i as usize)) {
             return i;
         }
     }
@@ -38,12 +39,12 @@ fn pair_seat_with<'a>(
     a: usize,
     added: u64,
 ) -> u8
-    ensures { λ v. ⌜ v ≡ lowest seat-count (λ i. holds-pair (now (conflicts .entry)) (gather role-count (λ r. member r (union (at (now (seats .entry)) i) (when (eqb i a) added))) (at (now (sets .entry))))) ⌝ }
+    ensures { λ v. ⌜ v ≡ lowest seat-count (λ i. holds-pair (sets-in (now (conflicts .entry))) (gather role-count (λ r. member r (union (at (now (seats .entry)) i) (when (eqb i a) added))) (at (sets-in (now (sets .entry)))))) ⌝ }
 {
     for i in 0..64u8 {
         let n = i as usize;
-        let roles = sets::union(entry(seats, n), sets::when(n == a, added));
-        if roles != 0 && holds_pair(conflicts, gathered(sets, roles)) {
+        let roles = sets::union(roles_at(seats, n), sets::when(n == a, added));
+        if roles != 0 && holds_pair(conflicts, union_at(sets, roles)) {
             return i;
         }
     }
@@ -78,8 +79,8 @@ pub(crate) fn offered_seat<'a>(sets: &'a [u64], seats: &'a [u64], a: Privilege, 
     ensures { λ v. ⌜ v ≡ lowest seat-count (offered-seat (state-of 0 (now (sets .entry)) [] (now (seats .entry))) (a .0) (b .0)) ⌝ }
 {
     for i in 0..64u8 {
-        let own = entry(seats, i as usize);
-        if own != 0 && holds_both(a, b, gathered(sets, own)) {
+        let own = roles_at(seats, i as usize);
+        if own != 0 && holds_both(a, b, union_at(sets, own)) {
             return i;
         }
     }

@@ -4,6 +4,7 @@ ghost use mathlib.Core.List.{List};
 ghost use mathlib.Core.Bool.{cond};
 ghost use Prim.Native.Nat.{ℕ, _≤_};
 ghost use Rattle.graph.specs.Tables.{at};
+ghost use Rattle.graph.specs.Reading.{read-set};
 ghost use Rattle.seats.specs.Seats.{held};
 ghost use Rattle.seats.specs.Records.{step};
 ghost use Rattle.seats.specs.ListTheorem.{ask-record};
@@ -13,21 +14,23 @@ use crate::Answer;
 use crate::Seat;
 use crate::answers::refusal;
 use graph::Privilege;
-use graph::table::entry;
-use graph::table::gathered;
+use graph::PrivilegeSet;
+use graph::privileges;
+use graph::table::roles_at;
+use graph::table::union_at;
 
 // The roles of a seat.
 pub fn roles_of(seats: &[u64], seat: Seat) -> u64
     ensures { λ v. ⌜ v ≡ at (now (seats .entry)) (seat .0) ⌝ }
 {
-    entry(seats, seat.0 as usize)
+    roles_at(seats, seat.0 as usize)
 }
 
 // What a seat holds, whatever the roles present and the conflicts.
-pub fn held_by<'a>(sets: &'a [u64], seats: &'a [u64], seat: Seat) -> u64
-    ensures { λ v. ⌜ ((R : ℕ) (C : List ℕ) → v ≡ held (state-of R (now (sets .entry)) C (now (seats .entry))) (seat .0)) ⌝ }
+pub fn held_by<'a>(sets: &'a [u64], seats: &'a [u64], seat: Seat) -> PrivilegeSet
+    ensures { λ v. ⌜ ((R : ℕ) (C : List ℕ) → read-set v ≡ held (state-of R (now (sets .entry)) C (now (seats .entry))) (seat .0)) ⌝ }
 {
-    gathered(sets, roles_of(seats, seat))
+    union_at(sets, roles_of(seats, seat))
 }
 
 // Kind 12: what a record that asks would be answered next, whatever the roles present and the conflicts.
@@ -40,8 +43,7 @@ pub fn ask<'a>(sets: &'a [u64], seats: &'a [u64], seat: Seat, privilege: Privile
     if 64 <= privilege.0 {
         return refusal(2, privilege.0);
     }
-    let p = privilege.0 as usize;
-    Answer::Answered(sets::member(p, held_by(sets, seats, seat)))
+    Answer::Answered(privileges::member(privilege, held_by(sets, seats, seat)))
 }
 
 // 1 for a yes, 0 for any other answer.

@@ -18,6 +18,7 @@ use crate::Decoded;
 use crate::Request;
 use crate::State;
 use crate::Stepped;
+use crate::Stored;
 use crate::Taken;
 use crate::answers::refusal;
 use crate::deciding;
@@ -32,6 +33,7 @@ use graph::editing;
 use graph::refusing;
 use graph::refusing::refuse;
 use graph::table::store;
+use graph::table::store_roles;
 
 // What refuses the removal of a role before closing: 2, 3, 21, and 24 while a seat has it.
 fn judge_held(roles: u64, seats: &[u64], a: Role) -> Verdict
@@ -175,11 +177,18 @@ fn take_request(
 {
     let decision = deciding::decide(roles, sets, conflicts, seats, request);
     let answer = decision.answer;
-    let conflict = decision.conflict;
-    let seat = decision.seat;
-    store(conflicts, conflict);
-    store(seats, seat);
-    Taken { answer, roles }
+    let stored = decision.stored;
+    match stored {
+        Stored::Nothing => Taken { answer, roles },
+        Stored::ConflictsOf(entry) => {
+            store(conflicts, entry.lower, entry.higher);
+            Taken { answer, roles }
+        }
+        Stored::RolesOf(entry) => {
+            store_roles(seats, entry.seat, entry.roles);
+            Taken { answer, roles }
+        }
+    }
 }
 
 // A record on lent tables: refusal 1 before any field is looked at, or the call.

@@ -1,4 +1,4 @@
--- `graph::table::store` meets its contract: the code stores below 64, and beyond its end a table takes nothing.
+-- `graph::table::store` meets its contract: the code stores within the table, and beyond its end a table takes nothing.
 -- Assumes nothing.
 use mathlib.Core.Path.{sym}
 use borrow.Author.Needs.{needs}

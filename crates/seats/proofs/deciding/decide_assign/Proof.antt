@@ -3,20 +3,18 @@
 use borrow.Author.Needs.{needs}
 use borrow.Author.Tests.{lt-ltb}
 use mathlib.Core.Bool.{Bool}
-use mathlib.Core.List.{List, [], _∷_}
 use mathlib.Core.Path.{sym, ap, ap₂, _∙_}
 use Prim.Native.Nat.{ℕ}
 use lib.ListN.{set}
 use Rattle.sets.specs.Sets.{member, single, union, when}
 use Rattle.graph.specs.Graph.{effective, present}
 use Rattle.graph.specs.Tables.{put}
-use Rattle.graph.specs.Refusing.{refuse, refuse-lowest}
 use Rattle.graph.specs.Reading.{read-verdict}
 use Rattle.graph.proofs.Judging.{stops, moves-on, ends, refused-first, passed-first, place-found, place-none}
-use Rattle.seats.specs.Seats.{seat-count, assigned, held, pair-seat}
+use Rattle.seats.specs.Seats.{assigned, held, pair-seat}
 use Rattle.seats.specs.Calls.{Answer, accepted, refused, assign, checks, after, reply, with-seats}
-use Rattle.seats.specs.Reading.{state-of, read-answer}
-use Rattle.seats.proofs.Requests.{refused-by, passed-by, none-stored, entry-stored, seat-role-checks, seat-numbers}
+use Rattle.seats.specs.Reading.{state-of, read-answer, stored}
+use Rattle.seats.proofs.Requests.{refused-by, passed-by, seat-role-checks, assign-late, seat-numbers}
 use Rattle.seats.proofs.deciding.decide_assign.Statement.{statement}
 use Rattle.seats.proofs.deciding.decide_assign.Tie as tie
 
@@ -32,14 +30,14 @@ unchanged-requires c κs = tt
 enum-told : tie.Need-enum-told
 enum-told c = search needs
 
-cast-number : tie.Need-cast-number
-cast-number c = search needs
+cast-seat : tie.Need-cast-seat
+cast-seat c = search needs
 
 cast-r : tie.Need-cast-r
 cast-r c = search needs
 
-entry-requires : tie.Need-entry-requires
-entry-requires c κs = tt
+roles-at-requires : tie.Need-roles-at-requires
+roles-at-requires c κs = tt
 
 member-requires : tie.Need-member-requires
 member-requires c κs = tt
@@ -60,7 +58,7 @@ returns c =
     let j = m .before .before .before .before .before .before .judge-seat .ensures in
     c .unchanged2 .ensures s
     ∙ ap (λ (x : Answer). (x, s)) (c .before .refusal .ensures)
-    ∙ sym (refused-by s (assign (g .a .0) (g .b .0)) (passed-first (seat-role-checks (s .graph) (g .a .0) (g .b .0)) (refuse 22 (assigned s (g .a .0) (g .b .0)) (g .a .0) ∷ refuse-lowest 30 seat-count (pair-seat (after s (assign (g .a .0) (g .b .0)))) ∷ []) j told ∙ stops _ _ (ap (member _) (sym (m .before .entry .ensures)) ∙ sym (m .member .ensures) ∙ c .before .before .if1 .taken)))
+    ∙ sym (refused-by s (assign (g .a .0) (g .b .0)) (passed-first (seat-role-checks (s .graph) (g .a .0) (g .b .0)) (assign-late s (g .a .0) (g .b .0)) j told ∙ stops _ _ (ap (member _) (sym (m .before .roles-at .ensures)) ∙ sym (m .member .ensures) ∙ c .before .before .if1 .taken)))
 
 pair-seat-after-requires : tie.Need-pair-seat-after-requires
 pair-seat-after-requires c κs = tt
@@ -82,13 +80,10 @@ returns-2 c =
     let j = m .before .before .before .before .before .before .judge-seat .ensures in
     c .unchanged3 .ensures s
     ∙ ap (λ (x : Answer). (x, s)) (c .before .refusal2 .ensures ∙ ap (refused 30) (q .pair-seat-after .ensures))
-    ∙ sym (refused-by s (assign (g .a .0) (g .b .0)) (passed-first (seat-role-checks (s .graph) (g .a .0) (g .b .0)) (refuse 22 (assigned s (g .a .0) (g .b .0)) (g .a .0) ∷ refuse-lowest 30 seat-count (pair-seat (after s (assign (g .a .0) (g .b .0)))) ∷ []) j told ∙ moves-on _ _ (ap (member _) (sym (m .before .entry .ensures)) ∙ sym (m .member .ensures) ∙ q .before .if1 .left) ∙ stops _ _ (place-found _ (q .pair-seat-after .ensures) (c .before .before .if2 .taken))))
+    ∙ sym (refused-by s (assign (g .a .0) (g .b .0)) (passed-first (seat-role-checks (s .graph) (g .a .0) (g .b .0)) (assign-late s (g .a .0) (g .b .0)) j told ∙ moves-on _ _ (ap (member _) (sym (m .before .roles-at .ensures)) ∙ sym (m .member .ensures) ∙ q .before .if1 .left) ∙ stops _ _ (place-found _ (q .pair-seat-after .ensures) (c .before .before .if2 .taken))))
 
 insert-requires : tie.Need-insert-requires
 insert-requires c κs = tt
-
-none-requires : tie.Need-none-requires
-none-requires c κs = tt
 
 returns-3 : tie.Need-returns-3
 unfolding read-verdict read-answer present checks assigned
@@ -97,22 +92,20 @@ returns-3 c =
     let s = state-of (g .roles) (g .sets .now) (g .conflicts .now) (g .seats .now) in
     let told = c .before .before .verdict .given .1 in
     c .unchanged .ensures s
-    ∙ sym (refused-by s (assign (g .a .0) (g .b .0)) (sym (refused-first (seat-role-checks (s .graph) (g .a .0) (g .b .0)) (refuse 22 (assigned s (g .a .0) (g .b .0)) (g .a .0) ∷ refuse-lowest 30 seat-count (pair-seat (after s (assign (g .a .0) (g .b .0)))) ∷ []) (c .before .before .before .before .judge-seat .ensures) told) ∙ ap read-verdict told))
+    ∙ sym (refused-by s (assign (g .a .0) (g .b .0)) (sym (refused-first (seat-role-checks (s .graph) (g .a .0) (g .b .0)) (assign-late s (g .a .0) (g .b .0)) (c .before .before .before .before .judge-seat .ensures) told) ∙ ap read-verdict told))
 
 returns-4 : tie.Need-returns-4
-unfolding read-verdict read-answer present checks assigned reply after with-seats put pair-seat held effective when
+unfolding read-verdict read-answer present checks assigned reply after stored put pair-seat held effective when
 returns-4 c =
-    let g = c .before .before .before .before .before .before .before .before .before .before .before .before .before .before .before .args in
+    let g = c .before .before .before .before .before .before .before .before .before .before .before .before .before .before .args in
     let s = state-of (g .roles) (g .sets .now) (g .conflicts .now) (g .seats .now) in
-    let q = c .before .before .before in
+    let q = c .before .before in
     let m = q .before .before in
     let told = m .before .before .before .before .enum-told .given .1 in
     let j = m .before .before .before .before .before .before .judge-seat .ensures in
     let n = seat-numbers (s .graph) (g .a .0) (g .b .0) (sym j ∙ ap read-verdict told) in
-    ap₂ (λ (C W : List ℕ). (accepted, state-of (g .roles) (g .sets .now) C W)) (none-stored (g .conflicts .now) _ (c .none .ensures))
-    (entry-stored (g .seats .now) _ (n .0)
-    ∙ ap (set (g .seats .now) (g .a .0)) (c .before .insert .ensures ∙ ap₂ union (m .before .entry .ensures) (ap (λ (t : Bool). when t (single (g .b .0))) (lt-ltb _ _ (n .1)))))
-    ∙ sym (passed-by s (assign (g .a .0) (g .b .0)) (passed-first (seat-role-checks (s .graph) (g .a .0) (g .b .0)) (refuse 22 (assigned s (g .a .0) (g .b .0)) (g .a .0) ∷ refuse-lowest 30 seat-count (pair-seat (after s (assign (g .a .0) (g .b .0)))) ∷ []) j told ∙ moves-on _ _ (ap (member _) (sym (m .before .entry .ensures)) ∙ sym (m .member .ensures) ∙ q .before .if1 .left) ∙ moves-on _ _ (place-none _ (q .pair-seat-after .ensures) (c .before .before .if2 .left)) ∙ sym ends))
+    ap (λ (x : ℕ). (accepted, with-seats s (set (s .seats) (g .a .0) x))) (c .insert .ensures ∙ ap₂ union (m .before .roles-at .ensures) (ap (λ (t : Bool). when t (single (g .b .0))) (lt-ltb _ _ (n .1))))
+    ∙ sym (passed-by s (assign (g .a .0) (g .b .0)) (passed-first (seat-role-checks (s .graph) (g .a .0) (g .b .0)) (assign-late s (g .a .0) (g .b .0)) j told ∙ moves-on _ _ (ap (member _) (sym (m .before .roles-at .ensures)) ∙ sym (m .member .ensures) ∙ q .before .if1 .left) ∙ moves-on _ _ (place-none _ (q .pair-seat-after .ensures) (c .before .if2 .left)) ∙ sym ends))
 
 pub decide-assign-spec : {M : Type 1} → statement M
 decide-assign-spec =
@@ -122,9 +115,9 @@ decide-assign-spec =
     enum-known-verdict
     unchanged-requires
     enum-told
-    cast-number
+    cast-seat
     cast-r
-    entry-requires
+    roles-at-requires
     member-requires
     refusal-requires
     unchanged-requires-2
@@ -134,6 +127,5 @@ decide-assign-spec =
     unchanged-requires-3
     returns-2
     insert-requires
-    none-requires
     returns-3
     returns-4)

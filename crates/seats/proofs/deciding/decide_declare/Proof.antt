@@ -2,19 +2,19 @@
 -- Assumes nothing.
 use borrow.Author.Needs.{needs}
 use borrow.Author.Tests.{lt-ltb}
-use mathlib.Core.Bool.{Bool, cond}
-use mathlib.Core.List.{List}
 use mathlib.Core.Path.{sym, ap, ap₂, _∙_}
-use Prim.Native.Nat.{ℕ, _<_}
-use native.Mathlib.Omega.{arith}
+use Prim.Native.Nat.{ℕ}
+use lib.ListN.{set}
+use Rattle.sets.specs.Sets.{when}
+use Rattle.graph.specs.Tables.{put}
 use Rattle.graph.specs.Graph.{effective}
 use Rattle.graph.specs.Conflicts as conflicts
 use Rattle.graph.specs.Reading.{read-verdict}
 use Rattle.graph.proofs.Judging.{stops, moves-on, ends, refused-first, passed-first, place-found, place-none}
 use Rattle.seats.specs.Seats.{assigned, held, offered-seat}
-use Rattle.seats.specs.Calls.{Answer, accepted, refused, declare, checks, after, reply, with-graph, with-conflicts}
-use Rattle.seats.specs.Reading.{state-of, read-answer}
-use Rattle.seats.proofs.Requests.{refused-by, passed-by, none-stored, entry-stored, declare-numbers}
+use Rattle.seats.specs.Calls.{Answer, accepted, refused, declare, checks, after, reply, with-conflicts}
+use Rattle.seats.specs.Reading.{state-of, read-answer, stored}
+use Rattle.seats.proofs.Requests.{refused-by, passed-by, declare-numbers}
 use Rattle.seats.proofs.deciding.decide_declare.Statement.{statement}
 use Rattle.seats.proofs.deciding.decide_declare.Tie as tie
 
@@ -50,11 +50,8 @@ returns c =
     ∙ ap (λ (x : Answer). (x, s)) (c .before .refusal .ensures ∙ ap (refused 30) (o .offered-seat .ensures))
     ∙ sym (refused-by s (declare (g .a .0) (g .b .0)) (passed-first _ _ (o .before .before .before .judge-declare .ensures) told ∙ stops _ _ (place-found _ (o .offered-seat .ensures) (c .before .before .if1 .taken))))
 
-declared-requires : tie.Need-declared-requires
-declared-requires c κs = tt
-
-none-requires : tie.Need-none-requires
-none-requires c κs = tt
+with-conflict-requires : tie.Need-with-conflict-requires
+with-conflict-requires c κs = tt
 
 returns-2 : tie.Need-returns-2
 unfolding read-verdict read-answer checks
@@ -66,21 +63,17 @@ returns-2 c =
     ∙ sym (refused-by s (declare (g .a .0) (g .b .0)) (sym (refused-first _ _ (c .before .before .before .before .judge-declare .ensures) told) ∙ ap read-verdict told))
 
 returns-3 : tie.Need-returns-3
-unfolding read-verdict read-answer checks reply after with-graph with-conflicts offered-seat held assigned effective
+unfolding read-verdict read-answer checks reply after stored conflicts.declare put when offered-seat held assigned effective
 returns-3 c =
-    let g = c .before .before .before .before .before .before .before .before .before .before .args in
+    let o = c .before .before in
+    let g = o .before .before .before .before .before .before .before .args in
     let s = state-of (g .roles) (g .sets .now) (g .conflicts .now) (g .seats .now) in
-    let o = c .before .before .before in
     let told = o .before .enum-told .given .1 in
     let j = o .before .before .before .judge-declare .ensures in
-    let d = c .before .declared .ensures in
-    let e = c .before .declared .result in
+    let d = c .with-conflict .ensures in
     let l = declare-numbers (s .graph) (g .a .0) (g .b .0) (sym j ∙ ap read-verdict told) in
-    let k : e .number < 64 = omega (arith, d .0) in
-    ap₂ (λ (C W : List ℕ). (accepted, state-of (g .roles) (g .sets .now) C W))
-    (entry-stored (g .conflicts .now) _ k ∙ d .1 ∙ ap (λ (t : Bool). cond t (conflicts.declare (g .conflicts .now) (g .a .0) (g .b .0)) (g .conflicts .now)) (lt-ltb _ _ l))
-    (none-stored (g .seats .now) _ (c .none .ensures))
-    ∙ sym (passed-by s (declare (g .a .0) (g .b .0)) (passed-first _ _ j told ∙ moves-on _ _ (place-none _ (o .offered-seat .ensures) (c .before .before .if1 .left)) ∙ sym ends))
+    ap₂ (λ (n x : ℕ). (accepted, with-conflicts s (set (s .graph .conflicts) n x))) (d .0) (d .1 ∙ rw (lt-ltb _ _ l))
+    ∙ sym (passed-by s (declare (g .a .0) (g .b .0)) (passed-first _ _ j told ∙ moves-on _ _ (place-none _ (o .offered-seat .ensures) (c .before .if1 .left)) ∙ sym ends))
 
 pub decide-declare-spec : {M : Type 1} → statement M
 decide-declare-spec =
@@ -94,7 +87,6 @@ decide-declare-spec =
     refusal-requires
     unchanged-requires-2
     returns
-    declared-requires
-    none-requires
+    with-conflict-requires
     returns-2
     returns-3)

@@ -3,20 +3,18 @@
 use borrow.Author.Needs.{needs}
 use borrow.Author.Tests.{lt-ltb, not-true, not-false}
 use mathlib.Core.Bool.{Bool, not}
-use mathlib.Core.List.{List, [], _∷_}
 use mathlib.Core.Path.{sym, ap, ap₂, _∙_}
 use Prim.Native.Nat.{ℕ}
 use lib.ListN.{set}
 use Rattle.sets.specs.Sets.{member, single, difference, when}
 use Rattle.graph.specs.Graph.{present}
 use Rattle.graph.specs.Tables.{take-out}
-use Rattle.graph.specs.Refusing.{refuse}
 use Rattle.graph.specs.Reading.{read-verdict}
 use Rattle.graph.proofs.Judging.{stops, moves-on, ends, refused-first, passed-first}
 use Rattle.seats.specs.Seats.{assigned}
 use Rattle.seats.specs.Calls.{Answer, accepted, unassign, checks, after, reply, with-seats}
-use Rattle.seats.specs.Reading.{state-of, read-answer}
-use Rattle.seats.proofs.Requests.{refused-by, passed-by, none-stored, entry-stored, seat-role-checks, seat-numbers}
+use Rattle.seats.specs.Reading.{state-of, read-answer, stored}
+use Rattle.seats.proofs.Requests.{refused-by, passed-by, seat-role-checks, unassign-late, seat-numbers}
 use Rattle.seats.proofs.deciding.decide_unassign.Statement.{statement}
 use Rattle.seats.proofs.deciding.decide_unassign.Tie as tie
 
@@ -32,14 +30,14 @@ unchanged-requires c κs = tt
 enum-told : tie.Need-enum-told
 enum-told c = search needs
 
-cast-number : tie.Need-cast-number
-cast-number c = search needs
+cast-seat : tie.Need-cast-seat
+cast-seat c = search needs
 
 cast-r : tie.Need-cast-r
 cast-r c = search needs
 
-entry-requires : tie.Need-entry-requires
-entry-requires c κs = tt
+roles-at-requires : tie.Need-roles-at-requires
+roles-at-requires c κs = tt
 
 member-requires : tie.Need-member-requires
 member-requires c κs = tt
@@ -60,13 +58,10 @@ returns c =
     let j = m .before .before .before .before .before .before .judge-seat .ensures in
     c .unchanged2 .ensures s
     ∙ ap (λ (x : Answer). (x, s)) (c .before .refusal .ensures)
-    ∙ sym (refused-by s (unassign (g .a .0) (g .b .0)) (passed-first (seat-role-checks (s .graph) (g .a .0) (g .b .0)) (refuse 23 (not (assigned s (g .a .0) (g .b .0))) (g .a .0) ∷ []) j told ∙ stops _ _ (ap not (ap (member _) (sym (m .before .entry .ensures)) ∙ sym (m .member .ensures) ∙ not-true _ (c .before .before .if1 .taken)))))
+    ∙ sym (refused-by s (unassign (g .a .0) (g .b .0)) (passed-first (seat-role-checks (s .graph) (g .a .0) (g .b .0)) (unassign-late s (g .a .0) (g .b .0)) j told ∙ stops _ _ (ap not (ap (member _) (sym (m .before .roles-at .ensures)) ∙ sym (m .member .ensures) ∙ not-true _ (c .before .before .if1 .taken)))))
 
 remove-requires : tie.Need-remove-requires
 remove-requires c κs = tt
-
-none-requires : tie.Need-none-requires
-none-requires c κs = tt
 
 returns-2 : tie.Need-returns-2
 unfolding read-verdict read-answer present checks assigned
@@ -75,21 +70,19 @@ returns-2 c =
     let s = state-of (g .roles) (g .sets .now) (g .conflicts .now) (g .seats .now) in
     let told = c .before .before .verdict .given .1 in
     c .unchanged .ensures s
-    ∙ sym (refused-by s (unassign (g .a .0) (g .b .0)) (sym (refused-first (seat-role-checks (s .graph) (g .a .0) (g .b .0)) (refuse 23 (not (assigned s (g .a .0) (g .b .0))) (g .a .0) ∷ []) (c .before .before .before .before .judge-seat .ensures) told) ∙ ap read-verdict told))
+    ∙ sym (refused-by s (unassign (g .a .0) (g .b .0)) (sym (refused-first (seat-role-checks (s .graph) (g .a .0) (g .b .0)) (unassign-late s (g .a .0) (g .b .0)) (c .before .before .before .before .judge-seat .ensures) told) ∙ ap read-verdict told))
 
 returns-3 : tie.Need-returns-3
-unfolding read-verdict read-answer present checks assigned reply after with-seats take-out when
+unfolding read-verdict read-answer present checks assigned reply after stored take-out when
 returns-3 c =
-    let g = c .before .before .before .before .before .before .before .before .before .before .before .before .before .args in
+    let g = c .before .before .before .before .before .before .before .before .before .before .before .before .args in
     let s = state-of (g .roles) (g .sets .now) (g .conflicts .now) (g .seats .now) in
-    let m = c .before .before .before in
+    let m = c .before .before in
     let told = m .before .before .before .before .enum-told .given .1 in
     let j = m .before .before .before .before .before .before .judge-seat .ensures in
     let n = seat-numbers (s .graph) (g .a .0) (g .b .0) (sym j ∙ ap read-verdict told) in
-    ap₂ (λ (C W : List ℕ). (accepted, state-of (g .roles) (g .sets .now) C W)) (none-stored (g .conflicts .now) _ (c .none .ensures))
-    (entry-stored (g .seats .now) _ (n .0)
-    ∙ ap (set (g .seats .now) (g .a .0)) (c .before .remove .ensures ∙ ap₂ difference (m .before .entry .ensures) (ap (λ (t : Bool). when t (single (g .b .0))) (lt-ltb _ _ (n .1)))))
-    ∙ sym (passed-by s (unassign (g .a .0) (g .b .0)) (passed-first (seat-role-checks (s .graph) (g .a .0) (g .b .0)) (refuse 23 (not (assigned s (g .a .0) (g .b .0))) (g .a .0) ∷ []) j told ∙ moves-on _ _ (ap not (ap (member _) (sym (m .before .entry .ensures)) ∙ sym (m .member .ensures) ∙ not-false _ (c .before .before .if1 .left))) ∙ sym ends))
+    ap (λ (x : ℕ). (accepted, with-seats s (set (s .seats) (g .a .0) x))) (c .remove .ensures ∙ ap₂ difference (m .before .roles-at .ensures) (ap (λ (t : Bool). when t (single (g .b .0))) (lt-ltb _ _ (n .1))))
+    ∙ sym (passed-by s (unassign (g .a .0) (g .b .0)) (passed-first (seat-role-checks (s .graph) (g .a .0) (g .b .0)) (unassign-late s (g .a .0) (g .b .0)) j told ∙ moves-on _ _ (ap not (ap (member _) (sym (m .before .roles-at .ensures)) ∙ sym (m .member .ensures) ∙ not-false _ (c .before .if1 .left))) ∙ sym ends))
 
 pub decide-unassign-spec : {M : Type 1} → statement M
 decide-unassign-spec =
@@ -99,14 +92,13 @@ decide-unassign-spec =
     enum-known-verdict
     unchanged-requires
     enum-told
-    cast-number
+    cast-seat
     cast-r
-    entry-requires
+    roles-at-requires
     member-requires
     refusal-requires
     unchanged-requires-2
     returns
     remove-requires
-    none-requires
     returns-2
     returns-3)

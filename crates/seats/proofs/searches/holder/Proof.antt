@@ -28,11 +28,11 @@ cast-r c = search needs
 loop-holds : tie.Need-loop-holds Inv-loop μ-loop
 loop-holds c = scanned-none _ seat-count
 
-cast-entry : tie.Need-cast-entry Inv-loop μ-loop
-cast-entry c = search needs
+cast-roles-at : tie.Need-cast-roles-at Inv-loop μ-loop
+cast-roles-at c = search needs
 
-entry-requires : tie.Need-entry-requires Inv-loop μ-loop
-entry-requires c κs = tt
+roles-at-requires : tie.Need-roles-at-requires Inv-loop μ-loop
+roles-at-requires c κs = tt
 
 member-requires : tie.Need-member-requires Inv-loop μ-loop
 member-requires c κs = tt
@@ -40,7 +40,7 @@ member-requires c κs = tt
 returns : tie.Need-returns Inv-loop μ-loop
 returns c =
     let t = c .before .before .before in
-    scanned-hit (t .before .loop .inv) (t .loop-test .taken) (ap (member _) (sym (c .before .before .entry .ensures)) ∙ sym (c .before .member .ensures) ∙ c .if1 .taken)
+    scanned-hit (t .before .loop .inv) (t .loop-test .taken) (ap (member _) (sym (c .before .before .roles-at .ensures)) ∙ sym (c .before .member .ensures) ∙ c .if1 .taken)
 
 add-i : tie.Need-add-i Inv-loop μ-loop
 add-i c = search needs
@@ -51,7 +51,7 @@ loop-less c = search needs
 loop-again : tie.Need-loop-again Inv-loop μ-loop
 loop-again c =
     let t = c .before .before .before in
-    scanned-next (t .before .loop .inv) (t .loop-test .taken) (ap (member _) (sym (c .before .before .entry .ensures)) ∙ sym (c .before .member .ensures) ∙ c .if1 .left)
+    scanned-next (t .before .loop .inv) (t .loop-test .taken) (ap (member _) (sym (c .before .before .roles-at .ensures)) ∙ sym (c .before .member .ensures) ∙ c .if1 .left)
 
 returns-2 : tie.Need-returns-2 Inv-loop μ-loop
 returns-2 c = scanned-miss (c .before .loop .inv) (c .loop-test .left)
@@ -64,8 +64,8 @@ holder-spec =
     μ-loop
     cast-r
     loop-holds
-    cast-entry
-    entry-requires
+    cast-roles-at
+    roles-at-requires
     member-requires
     returns
     add-i

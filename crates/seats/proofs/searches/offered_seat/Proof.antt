@@ -8,6 +8,7 @@ use mathlib.Core.Path.{sym, ap, _∙_}
 use Prim.Native.Nat.{ℕ, _-_}
 use Rattle.graph.specs.Graph.{effective}
 use Rattle.graph.specs.Conflicts.{holds-both}
+use Rattle.graph.specs.Reading.{sets-in}
 use Rattle.seats.specs.Seats.{seat-count, assigned, held, offered-seat}
 use Rattle.seats.specs.Reading.{state-of}
 use Rattle.seats.proofs.Requests.{joint, none-both}
@@ -28,14 +29,14 @@ abbrev μ-loop : tie.MeasureT-loop
 loop-holds : tie.Need-loop-holds Inv-loop μ-loop
 loop-holds c = scanned-none _ seat-count
 
-cast-entry : tie.Need-cast-entry Inv-loop μ-loop
-cast-entry c = search needs
+cast-roles-at : tie.Need-cast-roles-at Inv-loop μ-loop
+cast-roles-at c = search needs
 
-entry-requires : tie.Need-entry-requires Inv-loop μ-loop
-entry-requires c κs = tt
+roles-at-requires : tie.Need-roles-at-requires Inv-loop μ-loop
+roles-at-requires c κs = tt
 
-gathered-requires : tie.Need-gathered-requires Inv-loop μ-loop
-gathered-requires c κs = tt
+union-at-requires : tie.Need-union-at-requires Inv-loop μ-loop
+union-at-requires c κs = tt
 
 holds-both-requires : tie.Need-holds-both-requires Inv-loop μ-loop
 holds-both-requires c κs = tt
@@ -46,7 +47,7 @@ returns c =
     let o = c .before .before .before .before in
     let t = o .before in
     scanned-hit (t .before .loop .inv) (t .loop-test .taken)
-    (ap (holds-both _ _) (ap (joint _) (sym (o .entry .ensures)) ∙ sym (c .before .before .gathered .ensures)) ∙ sym (c .before .holds-both .ensures) ∙ c .if2 .taken)
+    (ap (holds-both _ _) (ap (joint _) (sym (o .roles-at .ensures)) ∙ sym (c .before .before .union-at .ensures)) ∙ sym (c .before .holds-both .ensures) ∙ c .if2 .taken)
 
 add-i : tie.Need-add-i Inv-loop μ-loop
 add-i c = search needs
@@ -62,8 +63,8 @@ loop-again c =
     let g = t .before .before .before .before .args in
     scanned-next (t .before .loop .inv) (t .loop-test .taken)
     (elim (c .if1 .came) [
-      | inl (_, j, h, f) ↦ ap (holds-both _ _) (ap (joint _) (sym (o .entry .ensures)) ∙ sym (j .ensures)) ∙ sym (h .ensures) ∙ f .left
-      | inr e ↦ ap (λ (own : ℕ). holds-both (g .a .0) (g .b .0) (joint (g .sets .now) own)) (sym (o .entry .ensures) ∙ e .left) ∙ none-both _ _ _
+      | inl (_, j, h, f) ↦ ap (holds-both _ _) (ap (joint _) (sym (o .roles-at .ensures)) ∙ sym (j .ensures)) ∙ sym (h .ensures) ∙ f .left
+      | inr e ↦ ap (λ (own : ℕ). holds-both (g .a .0) (g .b .0) (joint (sets-in (g .sets .now)) own)) (sym (o .roles-at .ensures) ∙ e .left) ∙ none-both _ _ _
     ])
 
 returns-2 : tie.Need-returns-2 Inv-loop μ-loop
@@ -76,9 +77,9 @@ offered-seat-spec =
     Inv-loop
     μ-loop
     loop-holds
-    cast-entry
-    entry-requires
-    gathered-requires
+    cast-roles-at
+    roles-at-requires
+    union-at-requires
     holds-both-requires
     returns
     add-i

@@ -10,6 +10,7 @@ use lib.Dec.{eqb}
 use Rattle.sets.specs.Sets.{union, when}
 use Rattle.graph.specs.Tables.{at}
 use Rattle.graph.specs.Conflicts.{holds-pair}
+use Rattle.graph.specs.Reading.{sets-in}
 use Rattle.seats.specs.Seats.{seat-count}
 use Rattle.seats.proofs.Requests.{joint, none-pair}
 use Rattle.seats.proofs.Scanning.{Scanned, scanned-none, scanned-next, scanned-hit, scanned-miss}
@@ -18,7 +19,7 @@ use Rattle.seats.proofs.searches.pair_seat_with.Tie as tie
 
 -- Seat i holds a declared pair, with these roles added to seat a.
 abbrev pairs : List ℕ → List ℕ → List ℕ → ℕ → ℕ → ℕ → Bool
-pairs sets conflicts seats a added i = holds-pair conflicts (joint sets (union (at seats i) (when (eqb i a) added)))
+pairs sets conflicts seats a added i = holds-pair (sets-in conflicts) (joint (sets-in sets) (union (at seats i) (when (eqb i a) added)))
 
 abbrev Inv-loop : tie.InvT-loop
 Inv-loop sets conflicts seats a added i₀ i = Scanned (pairs sets conflicts seats a added) seat-count i
@@ -32,8 +33,8 @@ loop-holds c = scanned-none _ seat-count
 cast-n : tie.Need-cast-n Inv-loop μ-loop
 cast-n c = search needs
 
-entry-requires : tie.Need-entry-requires Inv-loop μ-loop
-entry-requires c κs = tt
+roles-at-requires : tie.Need-roles-at-requires Inv-loop μ-loop
+roles-at-requires c κs = tt
 
 when-requires : tie.Need-when-requires Inv-loop μ-loop
 when-requires c κs = tt
@@ -41,8 +42,8 @@ when-requires c κs = tt
 union-requires : tie.Need-union-requires Inv-loop μ-loop
 union-requires c κs = tt
 
-gathered-requires : tie.Need-gathered-requires Inv-loop μ-loop
-gathered-requires c κs = tt
+union-at-requires : tie.Need-union-at-requires Inv-loop μ-loop
+union-at-requires c κs = tt
 
 holds-pair-requires : tie.Need-holds-pair-requires Inv-loop μ-loop
 holds-pair-requires c κs = tt
@@ -52,14 +53,14 @@ owned : (c : tie.After-union Inv-loop μ-loop) →
     let t = c .before .before .before in
     let g = t .before .before .before .before .before .args in
     c .union .result ≡ union (at (g .seats .now) (t .before .loop .i)) (when (eqb (t .before .loop .i) (g .a)) (g .added))
-owned c = c .union .ensures ∙ ap₂ union (c .before .before .entry .ensures) (c .before .when .ensures)
+owned c = c .union .ensures ∙ ap₂ union (c .before .before .roles-at .ensures) (c .before .when .ensures)
 
 returns : tie.Need-returns Inv-loop μ-loop
 returns c =
     let u = c .before .before .before .before in
     let t = u .before .before .before in
     scanned-hit (t .before .loop .inv) (t .loop-test .taken)
-    (ap (holds-pair _) (ap (joint _) (sym (owned u)) ∙ sym (c .before .before .gathered .ensures)) ∙ sym (c .before .holds-pair .ensures) ∙ c .if2 .taken)
+    (ap (holds-pair _) (ap (joint _) (sym (owned u)) ∙ sym (c .before .before .union-at .ensures)) ∙ sym (c .before .holds-pair .ensures) ∙ c .if2 .taken)
 
 add-i : tie.Need-add-i Inv-loop μ-loop
 add-i c = search needs
@@ -75,7 +76,7 @@ loop-again c =
     scanned-next (t .before .loop .inv) (t .loop-test .taken)
     (elim (c .if1 .came) [
       | inl (_, j, h, f) ↦ ap (holds-pair _) (ap (joint _) (sym (owned u)) ∙ sym (j .ensures)) ∙ sym (h .ensures) ∙ f .left
-      | inr e ↦ ap (λ (roles : ℕ). holds-pair (g .conflicts .now) (joint (g .sets .now) roles)) (sym (owned u) ∙ e .left) ∙ none-pair _ _
+      | inr e ↦ ap (λ (roles : ℕ). holds-pair (sets-in (g .conflicts .now)) (joint (sets-in (g .sets .now)) roles)) (sym (owned u) ∙ e .left) ∙ none-pair _ _
     ])
 
 returns-2 : tie.Need-returns-2 Inv-loop μ-loop
@@ -89,10 +90,10 @@ pair-seat-with-spec =
     μ-loop
     loop-holds
     cast-n
-    entry-requires
+    roles-at-requires
     when-requires
     union-requires
-    gathered-requires
+    union-at-requires
     holds-pair-requires
     returns
     add-i

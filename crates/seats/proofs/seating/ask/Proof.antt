@@ -28,9 +28,6 @@ unfolding perform checks verdict settle
 returns-2 c R C =
     c .refusal2 .ensures ∙ sym (steps-ask _ _ _ (search needs) ∙ rw (lt-leb 64 _ (c .before .before .before .if1 .left), le-leb 64 _ (c .before .if2 .taken)))
 
-cast-p : tie.Need-cast-p
-cast-p c = search needs
-
 held-by-requires : tie.Need-held-by-requires
 held-by-requires c κs = tt
 
@@ -46,4 +43,4 @@ returns-3 c R C =
 pub ask-spec : {M : Type 1} → statement M
 ask-spec =
     tie.close
-    (tie.spec refusal-requires returns refusal-requires-2 returns-2 cast-p held-by-requires member-requires returns-3)
+    (tie.spec refusal-requires returns refusal-requires-2 returns-2 held-by-requires member-requires returns-3)

@@ -4,6 +4,7 @@ use mathlib.Core.Path.{ap, _∙_}
 use Prim.Native.Nat.{ℕ}
 use Rattle.sets.specs.Sets.{member, gather}
 use Rattle.graph.specs.Tables.{at}
+use Rattle.graph.specs.Reading.{sets-in}
 use Rattle.graph.specs.Graph.{role-count, effective}
 use Rattle.seats.specs.Seats.{assigned, held}
 use Rattle.seats.proofs.seating.held_by.Statement.{statement}
@@ -12,14 +13,14 @@ use Rattle.seats.proofs.seating.held_by.Tie as tie
 roles-of-requires : tie.Need-roles-of-requires
 roles-of-requires c κs = tt
 
-gathered-requires : tie.Need-gathered-requires
-gathered-requires c κs = tt
+union-at-requires : tie.Need-union-at-requires
+union-at-requires c κs = tt
 
 returns : tie.Need-returns
 unfolding held assigned effective
 returns c R C =
-    c .gathered .ensures
-    ∙ ap (λ (roles : ℕ). gather role-count (λ r. member r roles) (at (c .before .before .before .before .args .sets .now))) (c .before .roles-of .ensures)
+    c .union-at .ensures
+    ∙ ap (λ (roles : ℕ). gather role-count (λ r. member r roles) (at (sets-in (c .before .before .before .before .args .sets .now)))) (c .before .roles-of .ensures)
 
 pub held-by-spec : {M : Type 1} → statement M
-held-by-spec = tie.close (tie.spec roles-of-requires gathered-requires returns)
+held-by-spec = tie.close (tie.spec roles-of-requires union-at-requires returns)
