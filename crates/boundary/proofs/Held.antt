@@ -21,8 +21,7 @@ use Rattle.graph.proofs.Tables.{length-table}
 use Rattle.seats.specs.Seats.{State, fresh}
 use Rattle.seats.specs.Calls.{Call, change, declare, lift, assign, unassign, ask, Answer, checks, with-graph, with-conflicts, with-seats, after, reply, settle, perform}
 use Rattle.seats.specs.Records.{Decoded, malformed, well-formed, decode, perform-decoded, step}
-use Rattle.seats.specs.Bytes.{number-at}
-use Rattle.seats.specs.Images.{least-image, end-sets, Entry, Contents, distance, contents, stored-pairs, restored, entry-checks, content-checks, Loaded, loaded, not-loaded, unless-refused, load-contents, load-trailer, load, settle-load, load-over}
+use Rattle.seats.specs.Images.{least-image, end-sets, Entry, Contents, Counts, distance, far-at, counts-at, contents, stored-pairs, restored, entry-checks, content-checks, Loaded, loaded, not-loaded, unless-refused, load-contents, load-trailer, load, settle-load, load-over}
 use Rattle.seats.specs.Lists.{answers, end}
 use Rattle.seats.proofs.Stores.{length-stored}
 use Rattle.boundary.specs.Block.{state-in, words-of, holding, of-state, code-of}
@@ -124,18 +123,18 @@ contents-sized : (c : Contents) → SizedLoad (load-contents c)
 unfolding load-contents
 contents-sized c = unless-sized (verdict (entry-checks c ++ content-checks (restored c))) (restored c) (restored-sized c)
 
-trailer-sized : (l : List ℕ) (far roles seats conflicts : ℕ) → SizedLoad (load-trailer l far roles seats conflicts)
+trailer-sized : (l : List ℕ) (far : ℕ) (n : Counts) → SizedLoad (load-trailer l far n)
 unfolding load-trailer
-trailer-sized l far roles seats conflicts =
-    let c = contents l (length l - far) roles seats conflicts in
-    either-sized (eqb far (distance roles seats conflicts) && leb far (length l)) (load-contents c) (not-loaded 6 0) (contents-sized c) none
+trailer-sized l far n =
+    let c = contents l (length l - far) n in
+    either-sized (eqb far (distance n) && leb far (length l)) (load-contents c) (not-loaded 6 0) (contents-sized c) none
 
 load-sized : (l : List ℕ) → SizedLoad (load l)
 unfolding load
 load-sized l =
-    let end = length l in
-    let t = trailer-sized l (number-at 4 (end - 8) l) (number-at 1 (end - 4) l) (number-at 1 (end - 3) l) (number-at 2 (end - 2) l) in
-    either-sized (ltb end least-image) (not-loaded 6 0) (load-trailer l (number-at 4 (end - 8) l) (number-at 1 (end - 4) l) (number-at 1 (end - 3) l) (number-at 2 (end - 2) l)) none t
+    let far = far-at l (length l) in
+    let n = counts-at l (length l) in
+    either-sized (ltb (length l) least-image) (not-loaded 6 0) (load-trailer l far n) none (trailer-sized l far n)
 
 settled-sized : (s : State) {x : Loaded} → Sized s → SizedLoad x → Sized (settle-load s x .1)
 unfolding settle-load

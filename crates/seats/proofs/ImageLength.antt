@@ -3,7 +3,6 @@
 use mathlib.Core.Path.{_≡_, refl, ap, _∙_}
 use mathlib.Core.Bool.{Bool, not}
 use mathlib.Core.Logic.{inl, inr}
-use mathlib.Core.List.{List}
 use Prim.Native.Nat.{ℕ, zero, suc, _+_, _/_, _%_, _<_, _≤_, _*_}
 use native.Mathlib.Nat.{zero-add, add-zero}
 use native.Mathlib.Omega.{arith}
@@ -19,29 +18,29 @@ use Rattle.graph.specs.Conflicts.{conflict}
 use Rattle.graph.proofs.Order.{ordinary-parts}
 use Rattle.seats.specs.Bytes.{bytes-of}
 use Rattle.seats.specs.Seats.{State}
-use Rattle.seats.specs.Images.{Entry, listed-from, role-entries, conflict-entries, seat-entries, distance, trailer, parts, image}
+use Rattle.seats.specs.Images.{Entry, listed-from, role-entries, conflict-entries, seat-entries, Contents, contents-of, Counts, counts-of, trailer-length, distance, trailer, parts, image}
 use Rattle.seats.proofs.Numbers.{length-bytes-of}
 use Rattle.seats.proofs.Entries.{Each, length-entry-bytes}
 use Rattle.seats.proofs.Listing.{valued, each-listed}
 use Rattle.seats.proofs.Stores.{filled}
 
-pub length-trailer : (r s c : ℕ) → length (trailer r s c) ≡ 8
+pub length-trailer : (n : Counts) → length (trailer n) ≡ trailer-length
 unfolding trailer bytes-of
-length-trailer r s c = refl
+length-trailer n = refl
 
-pub length-parts : (top : ℕ) (R C S : List Entry) → length (parts top R C S) ≡ distance (length R) (length S) (length C)
+pub length-parts : (c : Contents) → length (parts c) ≡ distance (counts-of c)
 unfolding parts distance
-length-parts top R C S =
-    let a = length-bytes-of 8 top in
-    let b = length-entry-bytes 8 R in
-    let c = length-entry-bytes 1 C in
-    let d = length-entry-bytes 8 S in
-    let e = length-trailer (length R) (length S) (length C) in
+length-parts c =
+    let t = length-bytes-of 8 (c .top) in
+    let r = length-entry-bytes 8 (c .roles) in
+    let p = length-entry-bytes 1 (c .conflicts) in
+    let s = length-entry-bytes 8 (c .seats) in
+    let e = length-trailer (counts-of c) in
     simp length-append (omega arith)
 
-pub image-length : (s : State) → length (image s) ≡ distance (length (role-entries (s .graph))) (length (seat-entries s)) (length (conflict-entries (s .graph)))
+pub image-length : (s : State) → length (image s) ≡ distance (counts-of (contents-of s))
 unfolding image
-image-length s = length-parts (effective (s .graph) 1) (role-entries (s .graph)) (conflict-entries (s .graph)) (seat-entries s)
+image-length s = length-parts (contents-of s)
 
 -- ---- at most how long
 -- The entries listed from i on and the places before i that have one are the places that have one.

@@ -16,15 +16,15 @@ use Rattle.sets.specs.Sets.{empty, included}
 use Rattle.sets.proofs.Tests.{both, join, passes, fails, decide, equal-test, test-equal}
 use Rattle.graph.specs.Graph.{privilege-count}
 use Rattle.graph.specs.Refusing.{Check, Verdict, passed, refused, verdict}
-use Rattle.graph.specs.Reading.{graph-of, read-verdict}
+use Rattle.graph.specs.Reading.{read-verdict}
 use Rattle.graph.specs.declared.Verdict.the-variants.{Passed, Refused}
 use Rattle.graph.proofs.Refusals.{Passes, verdict-passes}
 use Rattle.graph.proofs.Judging.{stops, moves-on, refused-first, passed-first}
-use Rattle.seats.specs.Bytes.{number-at}
 use Rattle.seats.specs.Seats.{State}
 use Rattle.seats.specs.Calls.{Answer}
 use Rattle.seats.specs.Calls as answers
-use Rattle.seats.specs.Images.{Entry, least-image, distance, Contents, contents, keys, end-sets, restored, pair-place, entry-checks, content-checks, loaded, not-loaded, unless-refused, load-contents, load-trailer, load, settle-load, load-over}
+use Rattle.seats.specs.Images.{Entry, least-image, Counts, distance, Contents, far-at, counts-at, contents, keys, end-sets, restored, pair-place, entry-checks, content-checks, loaded, not-loaded, unless-refused, load-contents, load-trailer, load, settle-load, load-over}
+use Rattle.seats.specs.Reading.{state-of}
 use Rattle.seats.specs.ImageWork.{ascends, numbered, paired, TableRead, PairsRead, ContentsRead}
 use Rattle.seats.proofs.Entries.{Each, each-map, each-zip}
 use Rattle.seats.proofs.Listing.{Rising, rising-low, above}
@@ -132,7 +132,7 @@ module _ (c : Contents) (small : Each (λ e. e .value < 2 ^ 64) (c .roles)) {set
       by-roles true e = ap₂ _&&_ (p .tested) (s .tested ∙ ap (seats-test c) (r .keyed e))
       by-roles false e = refl
 
-  pub contents-read : ContentsRead c (record { graph = graph-of present sets conflicts; seats = seats }) ((a && b) && d)
+  pub contents-read : ContentsRead c (state-of present sets conflicts seats) ((a && b) && d)
   unfolding restored entry-checks
   contents-read = record {
     tested =
@@ -147,7 +147,7 @@ module _ (c : Contents) (small : Each (λ e. e .value < 2 ^ 64) (c .roles)) {set
         let f = r .filled (passes a u) in
         let g = p .filled (passes b v) in
         let h = s .filled (passes d y) in
-        λ i. record { graph = graph-of (k i) (f i) (g i); seats = h i };
+        λ i. state-of (k i) (f i) (g i) (h i);
   }
 
 module _ {c : Contents} {h : State} {b : Bool} (w : ContentsRead c h b) where
@@ -182,34 +182,27 @@ module _ {c : Contents} {h : State} {b : Bool} (w : ContentsRead c h b) where
         ∙ ap loaded (sym (w .described e))
 
 -- ---- the trailer
--- What the last eight bytes say.
-pub record Trailed (l : List ℕ) (far roles seats conflicts : ℕ) : Type 0 where
-  pub far-is : far ≡ number-at 4 (length l - 8) l
-  pub roles-are : roles ≡ number-at 1 (length l - 4) l
-  pub seats-are : seats ≡ number-at 1 (length l - 3) l
-  pub conflicts-are : conflicts ≡ number-at 2 (length l - 2) l
-
 pub too-few-bytes : (l : List ℕ) → length l < least-image → load l ≡ not-loaded 6 0
 unfolding load
 too-few-bytes l h = rw (lt-ltb (length l) least-image h)
 
-module _ {l : List ℕ} {far r n c : ℕ} (long : least-image ≤ length l) (t : Trailed l far r n c) where
-  trailer-decides : load l ≡ load-trailer l far r n c
+module _ (l : List ℕ) {far : ℕ} {n : Counts} (long : least-image ≤ length l) (far-is : far ≡ far-at l (length l)) (counts-are : n ≡ counts-at l (length l)) where
+  trailer-decides : load l ≡ load-trailer l far n
   unfolding load
-  trailer-decides = rw (le-ltb (length l) least-image long, t .far-is, t .roles-are, t .seats-are, t .conflicts-are)
+  trailer-decides = rw (le-ltb (length l) least-image long, far-is, counts-are)
 
-  pub other-distance : far ≢ distance r n c → load l ≡ not-loaded 6 0
+  pub other-distance : far ≢ distance n → load l ≡ not-loaded 6 0
   unfolding load-trailer
-  other-distance d = trailer-decides ∙ rw (ne-eqb far (distance r n c) d)
+  other-distance d = trailer-decides ∙ rw (ne-eqb far (distance n) d)
 
-  module _ (e : far ≡ distance r n c) where
+  module _ (e : far ≡ distance n) where
     pub beyond-bytes : length l < far → load l ≡ not-loaded 6 0
     unfolding load-trailer
-    beyond-bytes h = trailer-decides ∙ rw (eq-eqb far (distance r n c) e, lt-leb far (length l) h)
+    beyond-bytes h = trailer-decides ∙ rw (eq-eqb far (distance n) e, lt-leb far (length l) h)
 
-    pub contents-decide : far ≤ length l → load l ≡ load-contents (contents l (length l - far) r n c)
+    pub contents-decide : far ≤ length l → load l ≡ load-contents (contents l (length l - far) n)
     unfolding load-trailer
-    contents-decide h = trailer-decides ∙ rw (eq-eqb far (distance r n c) e, le-leb far (length l) h)
+    contents-decide h = trailer-decides ∙ rw (eq-eqb far (distance n) e, le-leb far (length l) h)
 
 -- ---- what loading leaves
 pub refused-load : (s : State) (l : List ℕ) (n : ℕ) → load l ≡ not-loaded n 0 → {a : Answer} {h : State} → a ≡ answers.refused n 0 → h ≡ s → _≡_ {A = Answer × State} (a, h) (load-over s l)

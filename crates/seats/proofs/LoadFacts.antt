@@ -12,45 +12,31 @@ use Rattle.sets.specs.Sets.{empty, included}
 use Rattle.sets.proofs.Tests.{both, either, or-left, or-right, so, test-equal}
 use Rattle.graph.specs.Graph.{role-count, is-end, privilege-count}
 use Rattle.graph.specs.Refusing.{Verdict, passed, refused, verdict}
-use Rattle.seats.specs.Bytes.{number-at}
 use Rattle.seats.specs.Seats.{State, seat-count}
-use Rattle.seats.specs.Images.{Entry, least-image, distance, Contents, contents, keys, restored, pair-place, no-ordinary-number, entry-checks, content-checks, Loaded, loaded, not-loaded, unless-refused, load-contents, load-trailer, load}
+use Rattle.seats.specs.Images.{Entry, Contents, least-image, distance, far-at, counts-at, contents, keys, restored, pair-place, no-ordinary-number, entry-checks, content-checks, Loaded, loaded, not-loaded, unless-refused, load-contents, load-trailer, load}
 use Rattle.graph.proofs.Refusals.{Passes, parts, passed-passes, number-lt}
 use Rattle.seats.proofs.Entries.{Each, each-map, each-zip}
 use Rattle.seats.proofs.Listing.{Rising, ordered-rising, rising-ordered, none-each, each-none}
 use Rattle.seats.proofs.Pairs.{Pair}
-use Rattle.seats.proofs.ImageReading.{Says}
 
 -- The trailer and the contents of bytes that load.
 pub record Found (l : List ℕ) (s : State) : Type 0 where
-  pub roles : ℕ
-  pub seats : ℕ
-  pub conflicts : ℕ
-  pub says : Says l (length l) roles seats conflicts
-  pub fits : distance roles seats conflicts ≤ length l
-  pub loads : load-contents (contents l (length l - distance roles seats conflicts) roles seats conflicts) ≡ loaded s
+  pub far : far-at l (length l) ≡ distance (counts-at l (length l))
+  pub fits : distance (counts-at l (length l)) ≤ length l
+  pub loads : load-contents (contents l (length l - distance (counts-at l (length l))) (counts-at l (length l))) ≡ loaded s
 
 pub found : (l : List ℕ) (s : State) → load l ≡ loaded s → Found l s
 unfolding load load-trailer
 found l s e =
     let end = length l in
-    let far = number-at 4 (end - 8) l in
-    let r = number-at 1 (end - 4) l in
-    let n = number-at 1 (end - 3) l in
-    let c = number-at 2 (end - 2) l in
+    let far = far-at l end in
+    let n = counts-at l end in
     let x = otherwise (ltb end least-image) _ e in
-    let y = where-so (eqb far (distance r n c) && leb far end) _ x in
-    let z = both (eqb far (distance r n c)) (leb far end) (y .0) in
-    let q : far ≡ distance r n c = test-equal (z .0) in
+    let y = where-so (eqb far (distance n) && leb far end) _ x in
+    let z = both (eqb far (distance n)) (leb far end) (y .0) in
+    let q : far ≡ distance n = test-equal (z .0) in
     let k = leb→le far end (z .1) in
-    record {
-      roles = r;
-      seats = n;
-      conflicts = c;
-      says = record { far = q; roles = refl; seats = refl; conflicts = refl };
-      fits = omega arith;
-      loads = ap (λ (d : ℕ). load-contents (contents l (end - d) r n c)) (sym q) ∙ y .1;
-    }
+    record { far = q; fits = omega arith; loads = ap (λ (d : ℕ). load-contents (contents l (end - d) n)) (sym q) ∙ y .1 }
   where
     where-so : (b : Bool) (x : Loaded) → cond b x (not-loaded 6 0) ≡ loaded s → T b × (x ≡ loaded s)
     where-so true x e = (tt, e)

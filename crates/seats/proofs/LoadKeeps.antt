@@ -24,7 +24,7 @@ use Rattle.graph.proofs.Order.{ordinary-join, end-present, member-present, ordi
 use Rattle.seats.specs.Bytes.{Bytes}
 use Rattle.seats.specs.Seats.{State, seat-count, assigned, pair-seat}
 use Rattle.seats.specs.Invariants.{Invariant}
-use Rattle.seats.specs.Images.{Entry, distance, Contents, contents, keys, stored, end-sets, restored, content-checks, loaded, load}
+use Rattle.seats.specs.Images.{Entry, distance, Contents, counts-at, contents, keys, stored, end-sets, restored, content-checks, loaded, load}
 use Rattle.graph.proofs.Refusals.{Passes, closed-from}
 use Rattle.seats.proofs.Numbers.{number-lt}
 use Rattle.seats.proofs.Entries.{Each, each-map, entries-lt}
@@ -114,8 +114,9 @@ pub loaded-keeps : (l : List ℕ) → Bytes l → (s : State) → load l ≡ loa
 unfolding contents
 loaded-keeps l h s e =
     let f = found l s e in
-    let i = length l - distance (f .roles) (f .seats) (f .conflicts) in
-    let c = contents l i (f .roles) (f .seats) (f .conflicts) in
+    let n = counts-at l (length l) in
+    let i = length l - distance n in
+    let c = contents l i n in
     let a = accepted c s (f .loads) in
     subst Invariant (a .same)
-    (restored-keeps c (ordered c (a .entries)) (number-lt 8 i l h) (entries-lt 8 _ (f .roles) l h) (entries-lt 8 _ (f .seats) l h) (a .state))
+    (restored-keeps c (ordered c (a .entries)) (number-lt 8 i l h) (entries-lt 8 _ (n .roles) l h) (entries-lt 8 _ (n .seats) l h) (a .state))

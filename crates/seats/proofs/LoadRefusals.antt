@@ -9,10 +9,9 @@ use lib.ListN.{length}
 use lib.Dec.{eqb, leb, ltb}
 use Rattle.graph.specs.Refusing.{Check, Verdict, passed, verdict}
 use Rattle.graph.specs.Refusing as refusing
-use Rattle.seats.specs.Bytes.{number-at}
 use Rattle.seats.specs.Seats.{State}
 use Rattle.seats.specs.Calls.{refused}
-use Rattle.seats.specs.Images.{least-image, distance, Contents, contents, restored, entry-checks, content-checks, Loaded, loaded, not-loaded, unless-refused, load-contents, load-trailer, load, settle-load, load-over}
+use Rattle.seats.specs.Images.{least-image, Counts, distance, Contents, far-at, counts-at, contents, restored, entry-checks, content-checks, Loaded, loaded, not-loaded, unless-refused, load-contents, load-trailer, load, settle-load, load-over}
 
 pub load-refused-keeps : (s : State) (l : List ℕ) (n p : ℕ) → load l ≡ not-loaded n p → load-over s l ≡ (refused n p, s)
 unfolding load-over settle-load
@@ -65,21 +64,18 @@ contents-refused c = by-verdict (verdict (entry-checks c ++ content-checks (rest
 six : OfLoading 6 0
 six = (inl refl, refl)
 
-trailer-refused : (l : List ℕ) (far r n c : ℕ) → Refused (load-trailer l far r n c)
+trailer-refused : (l : List ℕ) (far : ℕ) (n : Counts) → Refused (load-trailer l far n)
 unfolding load-trailer
-trailer-refused l far r n c =
-    let x = contents l (length l - far) r n c in
-    either-way Refused (eqb far (distance r n c) && leb far (length l)) (load-contents x) (not-loaded 6 0) (contents-refused x) six
+trailer-refused l far n =
+    let x = contents l (length l - far) n in
+    either-way Refused (eqb far (distance n) && leb far (length l)) (load-contents x) (not-loaded 6 0) (contents-refused x) six
 
 load-refused : (l : List ℕ) → Refused (load l)
 unfolding load
 load-refused l =
-    let end = length l in
-    let far = number-at 4 (end - 8) l in
-    let r = number-at 1 (end - 4) l in
-    let n = number-at 1 (end - 3) l in
-    let c = number-at 2 (end - 2) l in
-    either-way Refused (ltb end least-image) (not-loaded 6 0) (load-trailer l far r n c) six (trailer-refused l far r n c)
+    let far = far-at l (length l) in
+    let n = counts-at l (length l) in
+    either-way Refused (ltb (length l) least-image) (not-loaded 6 0) (load-trailer l far n) six (trailer-refused l far n)
 
 pub load-refusals : (l : List ℕ) (n p : ℕ) → load l ≡ not-loaded n p → ((n ≡ 6) ⊎ (n ≡ 7) ⊎ (n ≡ 8)) × (p ≡ 0)
 load-refusals l n p e = subst Refused e (load-refused l)

@@ -16,13 +16,12 @@ use Rattle.graph.proofs.Tables.{at-replicate}
 use Rattle.graph.proofs.Order.{ordinary-parts, ordinary-join}
 use Rattle.seats.specs.Bytes.{bytes-of, number-at, Bytes}
 use Rattle.seats.specs.Seats.{State, seat-count}
-use Rattle.seats.specs.Images.{Entry, role-entries, conflict-entries, seat-entries, distance, trailer, parts, image, entries-at, Contents, contents, keys, stored, end-sets, restored, loaded, load}
+use Rattle.seats.specs.Images.{Entry, role-entries, conflict-entries, seat-entries, Contents, trailer-length, distance, trailer, parts, image, far-at, counts-at, contents, keys, stored, end-sets, restored, loaded, load}
 use Rattle.seats.proofs.Numbers.{bytes-of-number}
 use Rattle.seats.proofs.Entries.{Each, each-map, each-zip, length-entries-at, entry-bytes-at}
 use Rattle.seats.proofs.Listing.{there, each-some}
 use Rattle.seats.proofs.Stores.{filled, member-keys, stored-each, stored-other, stored-absent, stored-listed}
 use Rattle.seats.proofs.Pairs.{pairs-listed}
-use Rattle.seats.proofs.ImageReading.{Says}
 use Rattle.seats.proofs.LoadFacts.{found, accepted, Ordered, ordered}
 
 -- ---- bytes that were read are written back
@@ -30,33 +29,36 @@ use Rattle.seats.proofs.LoadFacts.{found, accepted, Ordered, ordered}
 split : (n k m : ℕ) (l : List ℕ) → k + n ≡ m → take n (drop k l) ++ drop m l ≡ drop k l
 split n k m l e = ap (λ (x : List ℕ). take n (drop k l) ++ x) (ap (λ (j : ℕ). drop j l) (sym e) ∙ sym (drop-drop n k l)) ∙ take-append-drop n (drop k l)
 
-trailer-back : (l : List ℕ) (r n c : ℕ) → Bytes l → 8 ≤ length l → Says l (length l) r n c → trailer r n c ≡ drop (length l - 8) l
-unfolding trailer
-trailer-back l r n c h k s =
+trailer-back : (l : List ℕ) → Bytes l → trailer-length ≤ length l → far-at l (length l) ≡ distance (counts-at l (length l)) → trailer (counts-at l (length l)) ≡ drop (length l - trailer-length) l
+unfolding trailer far-at counts-at
+trailer-back l h k f =
     let end = length l in
-    let last : bytes-of 2 c ≡ drop (end - 2) l =
-    ap (bytes-of 2) (sym (s .conflicts)) ∙ bytes-of-number 2 (end - 2) l h (omega arith) ∙ take-all 2 (drop (end - 2) l) (omega (arith, length-drop (end - 2) l)) in
-    behind 4 (distance r n c) (end - 8) (end - 4) (s .far) (omega arith) (omega arith)
-    (behind 1 r (end - 4) (end - 3) (s .roles) (omega arith) (omega arith) (behind 1 n (end - 3) (end - 2) (s .seats) (omega arith) (omega arith) last))
+    let last : bytes-of 2 (number-at 2 (end - 2) l) ≡ drop (end - 2) l =
+    bytes-of-number 2 (end - 2) l h (omega arith) ∙ take-all 2 (drop (end - 2) l) (omega (arith, length-drop (end - 2) l)) in
+    behind 4 (end - 8) (end - 4) f (omega arith) (omega arith)
+    (behind 1 (end - 4) (end - 3) refl (omega arith) (omega arith) (behind 1 (end - 3) (end - 2) refl (omega arith) (omega arith) last))
   where
-    behind : (w x k m : ℕ) {t : List ℕ} → number-at w k l ≡ x → k + w ≡ m → m ≤ length l → t ≡ drop m l → bytes-of w x ++ t ≡ drop k l
-    behind w x k m e q b f = ap₂ (λ (y z : List ℕ). y ++ z) (ap (bytes-of w) (sym e) ∙ bytes-of-number w k l h (omega arith)) f ∙ split w k m l q
+    behind : (w k m : ℕ) {x : ℕ} {t : List ℕ} → number-at w k l ≡ x → k + w ≡ m → m ≤ length l → t ≡ drop m l → bytes-of w x ++ t ≡ drop k l
+    behind w k m e q b f = ap₂ (λ (y z : List ℕ). y ++ z) (ap (bytes-of w) (sym e) ∙ bytes-of-number w k l h (omega arith)) f ∙ split w k m l q
 
 -- The parts of the contents of bytes are those bytes.
-parts-back : (l : List ℕ) (i r n c : ℕ) → Bytes l → i + distance r n c ≡ length l → Says l (length l) r n c →
-    parts (number-at 8 i l) (entries-at 8 (i + 8) r l) (entries-at 1 (i + 8 + 9 * r) c l) (entries-at 8 (i + 8 + 9 * r + 2 * c) n l) ≡ drop i l
-unfolding parts distance
-parts-back l i r n c h e s =
+parts-back : (l : List ℕ) (i : ℕ) → let n = counts-at l (length l) in Bytes l → i + distance n ≡ length l → far-at l (length l) ≡ distance n → parts (contents l i n) ≡ drop i l
+unfolding parts contents distance
+parts-back l i h e f =
+    let n = counts-at l (length l) in
+    let r = n .roles in
+    let s = n .seats in
+    let c = n .conflicts in
     rw (
       length-entries-at 8 (i + 8) r l,
-      length-entries-at 8 (i + 8 + 9 * r + 2 * c) n l,
+      length-entries-at 8 (i + 8 + 9 * r + 2 * c) s l,
       length-entries-at 1 (i + 8 + 9 * r) c l,
-      trailer-back l r n c h (omega arith) s,
+      trailer-back l h (omega arith) f,
       bytes-of-number 8 i l h (omega arith),
       entry-bytes-at 8 (i + 8) r l h (omega arith),
       entry-bytes-at 1 (i + 8 + 9 * r) c l h (omega arith),
-      entry-bytes-at 8 (i + 8 + 9 * r + 2 * c) n l h (omega arith),
-      split (n * 9) (i + 8 + 9 * r + 2 * c) (length l - 8) l (omega arith),
+      entry-bytes-at 8 (i + 8 + 9 * r + 2 * c) s l h (omega arith),
+      split (s * 9) (i + 8 + 9 * r + 2 * c) (length l - 8) l (omega arith),
       split (c * 2) (i + 8 + 9 * r) (i + 8 + 9 * r + 2 * c) l (omega arith),
       split (r * 9) (i + 8) (i + 8 + 9 * r) l (omega arith),
     )
@@ -94,20 +96,18 @@ module _ (c : Contents) (o : Ordered c) where
       absent : (k : ℕ) → (T (there Entry.key k (c .seats)) → ⊥) → at (stored (c .seats) (replicate seat-count empty)) k ≡ 0
       absent k n = stored-absent k (c .seats) (replicate seat-count empty) n ∙ at-replicate seat-count k
 
-  image-restored : image (restored c) ≡ parts (c .top) (c .roles) (c .conflicts) (c .seats)
+  image-restored : image (restored c) ≡ parts c
   unfolding image
   image-restored = rw (top-back, roles-back, conflicts-back, seats-back)
 
 pub saves-back : (l : List ℕ) → Bytes l → (s : State) → load l ≡ loaded s → (length (image s) ≤ length l) × (drop (length l - length (image s)) l ≡ image s)
-unfolding contents
 saves-back l h s e =
     let f = found l s e in
-    let far = distance (f .roles) (f .seats) (f .conflicts) in
+    let far = distance (counts-at l (length l)) in
     let i = length l - far in
     let k = f .fits in
-    let c = contents l i (f .roles) (f .seats) (f .conflicts) in
+    let c = contents l i (counts-at l (length l)) in
     let a = accepted c s (f .loads) in
-    let q : image s ≡ drop i l =
-    ap image (sym (a .same)) ∙ image-restored c (ordered c (a .entries)) ∙ parts-back l i (f .roles) (f .seats) (f .conflicts) h (omega arith) (f .says) in
+    let q : image s ≡ drop i l = ap image (sym (a .same)) ∙ image-restored c (ordered c (a .entries)) ∙ parts-back l i h (omega arith) (f .far) in
     let d : length (image s) ≡ far = ap length q ∙ length-drop i l ∙ omega arith in
     (omega arith, rw d (sym q))

@@ -23,7 +23,7 @@ use Rattle.graph.specs.Invariants.{Formed}
 use Rattle.graph.proofs.Tables.{at-replicate}
 use Rattle.graph.proofs.Order.{ordinary-parts, ordinary-join, present-cases}
 use Rattle.seats.specs.Seats.{State, seat-count, assigned, pair-seat}
-use Rattle.seats.specs.Images.{Entry, role-entries, conflict-entries, seat-entries, image, Contents, keys, stored, end-sets, restored, pair-place, entry-checks, content-checks, loaded, unless-refused, load-contents, load}
+use Rattle.seats.specs.Images.{Entry, role-entries, conflict-entries, seat-entries, contents-of, image, keys, stored, end-sets, restored, pair-place, entry-checks, content-checks, loaded, unless-refused, load-contents, load}
 use Rattle.seats.specs.Invariants.{Invariant}
 use Rattle.graph.proofs.Refusals.{Passes, whole, verdict-passes, closed-goes}
 use Rattle.seats.proofs.Entries.{Each, each-map}
@@ -31,12 +31,8 @@ use Rattle.seats.proofs.Listing.{valued, rising-by, some-one, each-list
 use Rattle.seats.proofs.Stores.{filled, member-keys, keys-lt, listed-stored}
 use Rattle.seats.proofs.Pairs.{Pair, pair-number, pair-at, has-pair, listed-pairs}
 use Rattle.seats.proofs.ImageLength.{role-keys, conflict-pairs, roles-bound, seats-bound, conflicts-bound}
-use Rattle.seats.proofs.ImageReading.{made-of, parts-load}
+use Rattle.seats.proofs.ImageReading.{Fits, parts-load}
 use Rattle.seats.proofs.LoadFacts.{ordered-passes}
-
--- What saving writes.
-abbrev pub saved : State → Contents
-saved s = made-of (effective (s .graph) max-role) (role-entries (s .graph)) (conflict-entries (s .graph)) (seat-entries s)
 
 -- ---- the state that an image's entries describe is the one saved
 module _ (g : Graph) (f : Formed g) where
@@ -84,7 +80,7 @@ module _ (s : State) (v : Invariant s) where
       listed-stored 64 (filled (s .seats)) (s .seats) (replicate 64 0) (v .seats .whole) refl
       (λ k none. at-replicate 64 k ∙ sym (test-equal (so (eqb (at (s .seats) k) empty) none)))
 
-  restored-saved : restored (saved s) ≡ s
+  restored-saved : restored (contents-of s) ≡ s
   unfolding restored conflict-entries
   restored-saved =
       let f = v .graph .formed in
@@ -106,11 +102,11 @@ module _ (s : State) (v : Invariant s) where
             (member-included 64 (at (s .seats) k) (s .graph .roles) (v .seats .entry-lt k) (λ r l m. ordinary-parts (s .graph) r (v .seated k r m) .1)),
       ))
 
-  entries-pass : Passes (entry-checks (saved s))
+  entries-pass : Passes (entry-checks (contents-of s))
   unfolding role-entries seat-entries conflict-entries pair-place
   entries-pass =
       let g = s .graph in
-      ordered-passes (saved s)
+      ordered-passes (contents-of s)
       (record {
         roles-rise = rising-listed (ordinary g) (valued (effective g)) Entry.key (λ i. refl) 0 64;
         roles = role-keys g;
@@ -142,22 +138,25 @@ module _ (s : State) (v : Invariant s) where
           let (o, n) = both (ordinary g r) (not (included (effective g r) (effective g max-role))) x in
           T-not (included (effective g r) (effective g max-role)) n (v .graph .formed .top-whole r o)
 
-  contents-load : load-contents (saved s) ≡ loaded s
+  contents-load : load-contents (contents-of s) ≡ loaded s
   unfolding load-contents unless-refused
   contents-load =
-      rw restored-saved (rw (verdict-passes (entry-checks (saved s) ++ content-checks s) (whole (entry-checks (saved s)) (content-checks s) entries-pass state-passes)))
+      rw restored-saved (rw (verdict-passes (entry-checks (contents-of s) ++ content-checks s) (whole (entry-checks (contents-of s)) (content-checks s) entries-pass state-passes)))
 
   pub loads-back : (before : List ℕ) → load (before ++ image s) ≡ loaded s
   unfolding image role-entries seat-entries effective
-  loads-back before =
-      let g = s .graph in
-      parts-load before (effective g max-role) (role-entries g) (conflict-entries g) (seat-entries s)
-      (set-lt max-role)
-      (each-listed (ordinary g) (valued (effective g)) (λ e. e .value < 256 ^ 8) 0 64 (λ k l t. set-lt k))
-      (each-map (conflict-entries g) (λ e p. let a = p .1 in omega arith) (conflict-pairs g))
-      (each-listed (filled (s .seats)) (valued (at (s .seats))) (λ e. e .value < 256 ^ 8) 0 64 (λ k l t. v .seats .entry-lt k))
-      (omega (arith, roles-bound g)) (omega (arith, conflicts-bound g)) (omega (arith, seats-bound s))
-      ∙ contents-load
+  loads-back before = parts-load before (contents-of s) fits ∙ contents-load
     where
       set-lt : (r : ℕ) → effective (s .graph) r < 256 ^ 8
       set-lt r = v .graph .formed .sets .entry-lt r
+
+      fits : Fits (contents-of s)
+      fits =
+          let g = s .graph in
+          record {
+            counts = (omega (arith, roles-bound g), omega (arith, seats-bound s), omega (arith, conflicts-bound g));
+            top = set-lt max-role;
+            roles = each-listed (ordinary g) (valued (effective g)) (λ e. e .value < 256 ^ 8) 0 64 (λ k l t. set-lt k);
+            conflicts = each-map (conflict-entries g) (λ e p. let a = p .1 in omega arith) (conflict-pairs g);
+            seats = each-listed (filled (s .seats)) (valued (at (s .seats))) (λ e. e .value < 256 ^ 8) 0 64 (λ k l t. v .seats .entry-lt k);
+          }

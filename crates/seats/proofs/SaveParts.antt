@@ -10,7 +10,7 @@ use Rattle.graph.specs.Tables.{at}
 use Rattle.graph.specs.Graph.{effective}
 use Rattle.seats.specs.Bytes.{written, too-short, bytes-of}
 use Rattle.seats.specs.Seats.{State}
-use Rattle.seats.specs.Images.{role-entries, conflict-entries, seat-entries, entry-bytes, distance, trailer, parts, image}
+use Rattle.seats.specs.Images.{role-entries, conflict-entries, seat-entries, contents-of, entry-bytes, Counts, counts-of, distance, trailer, parts, image}
 use Rattle.seats.specs.Saving.{save}
 use Rattle.seats.specs.Written.{Written}
 use Rattle.seats.specs.ImageWork.{table-entries, pair-entries}
@@ -20,44 +20,38 @@ use Rattle.seats.proofs.Written.{Unwritten, unwritten-all, filled, unfi
 use Rattle.seats.proofs.MemberEntries.{length-members, roles-listed, seats-listed}
 
 -- The ordinary roles and the seats that have roles, how many they and the conflicts are, and the image's length.
-pub record Counted (s : State) (ordinary occupied roles seats conflicts far : ℕ) : Type 0 where
+pub record Counted (s : State) (ordinary occupied : ℕ) (n : Counts) (far : ℕ) : Type 0 where
   pub ordinary-are : ordinary ≡ difference (s .graph .roles) 3
   pub occupied-are : occupied ≡ collect 64 (stores.filled (s .seats))
-  pub roles-are : roles ≡ size 64 ordinary
-  pub seats-are : seats ≡ size 64 occupied
-  pub conflicts-are : conflicts ≡ length (pair-entries (s .graph .conflicts))
-  pub far-is : far ≡ distance roles seats conflicts
+  pub roles-are : n .roles ≡ size 64 ordinary
+  pub seats-are : n .seats ≡ size 64 occupied
+  pub conflicts-are : n .conflicts ≡ length (pair-entries (s .graph .conflicts))
+  pub far-is : far ≡ distance n
 
-module _ {s : State} {o t r n c far : ℕ} (k : Counted s o t r n c far) where
+module _ {s : State} {o t : ℕ} {n : Counts} {far : ℕ} (k : Counted s o t n far) where
   roles-part : table-entries o (s .graph .sets) ≡ role-entries (s .graph)
   roles-part = ap (λ (x : ℕ). table-entries x (s .graph .sets)) (k .ordinary-are) ∙ roles-listed (s .graph)
 
   seats-part : table-entries t (s .seats) ≡ seat-entries s
   seats-part = ap (λ (x : ℕ). table-entries x (s .seats)) (k .occupied-are) ∙ seats-listed s
 
-  roles-length : length (table-entries o (s .graph .sets)) ≡ r
-  roles-length = length-members 64 o _ ∙ sym (k .roles-are)
-
-  seats-length : length (table-entries t (s .seats)) ≡ n
-  seats-length = length-members 64 t _ ∙ sym (k .seats-are)
+  -- The counts are those of what the image holds.
+  counts-same : counts-of (contents-of s) ≡ n
+  unfolding conflict-entries
+  counts-same =
+      let a = ap length (sym roles-part) ∙ length-members 64 o _ ∙ sym (k .roles-are) in
+      let b = ap length (sym seats-part) ∙ length-members 64 t _ ∙ sym (k .seats-are) in
+      let c = sym (k .conflicts-are) in
+      λ d. record { roles = a d; seats = b d; conflicts = c d }
 
   -- What saving writes, one part after the other.
   image-parts : image s ≡ bytes-of 8 (at (s .graph .sets) 1)
-      ++ (entry-bytes 8 (table-entries o (s .graph .sets)) ++ (entry-bytes 1 (pair-entries (s .graph .conflicts)) ++ (entry-bytes 8 (table-entries t (s .seats)) ++ trailer r n c)))
+      ++ (entry-bytes 8 (table-entries o (s .graph .sets)) ++ (entry-bytes 1 (pair-entries (s .graph .conflicts)) ++ (entry-bytes 8 (table-entries t (s .seats)) ++ trailer n)))
   unfolding image parts effective conflict-entries
-  image-parts =
-      let a = ap length (sym roles-part) ∙ roles-length in
-      let b = ap length (sym seats-part) ∙ seats-length in
-      let e = sym (k .conflicts-are) in
-      rw (roles-part, seats-part) (rw (a, b, e))
+  image-parts = rw (roles-part, seats-part, counts-same)
 
   image-far : length (image s) ≡ far
-  unfolding conflict-entries
-  image-far =
-      let a = ap length (sym roles-part) ∙ roles-length in
-      let b = ap length (sym seats-part) ∙ seats-length in
-      let e = sym (k .conflicts-are) in
-      image-length s ∙ rw (a, b) (ap (distance r n) e ∙ sym (k .far-is))
+  image-far = image-length s ∙ ap distance counts-same ∙ sym (k .far-is)
 
   module _ (buffer : List ℕ) where
     pub saves-nothing : length buffer < far → (too-short 9 0, buffer) ≡ save s buffer
@@ -69,7 +63,7 @@ module _ {s : State} {o t r n c far : ℕ} (k : Counted s o t r n c far) where
     image-fits h = let e = image-far in omega arith
 
     pub image-left : Unwritten buffer 0 (image s) buffer 0 (bytes-of 8 (at (s .graph .sets) 1)
-        ++ (entry-bytes 8 (table-entries o (s .graph .sets)) ++ (entry-bytes 1 (pair-entries (s .graph .conflicts)) ++ (entry-bytes 8 (table-entries t (s .seats)) ++ trailer r n c))))
+        ++ (entry-bytes 8 (table-entries o (s .graph .sets)) ++ (entry-bytes 1 (pair-entries (s .graph .conflicts)) ++ (entry-bytes 8 (table-entries t (s .seats)) ++ trailer n))))
     image-left = subst (λ (l : List ℕ). Unwritten buffer 0 (image s) buffer 0 l) image-parts (unwritten-all buffer 0 (image s))
 
     pub saves-all : {after : List ℕ} {next : ℕ} → far ≤ length buffer → Written buffer 0 (image s) after next → (written far, after) ≡ save s buffer

@@ -2,7 +2,7 @@
 use mathlib.Core.Path.{_≡_}
 use mathlib.Core.Bool.{Bool, true, cond, _&&_}
 use mathlib.Core.List.{List, [], _∷_}
-use Prim.Native.Nat.{ℕ, suc}
+use Prim.Native.Nat.{ℕ, suc, _<_}
 use lib.Dec.{leb, ltb}
 use Rattle.sets.specs.Sets.{empty, member, included}
 use Rattle.graph.specs.Tables.{at}
@@ -10,7 +10,7 @@ use Rattle.graph.specs.Graph.{privilege-count}
 use Rattle.graph.specs.Refusing.{passed, refused, verdict}
 use Rattle.graph.specs.Reading.{graph-of}
 use Rattle.seats.specs.Seats.{State}
-use Rattle.seats.specs.Images.{Entry, listed-from, conflict-entries, Contents, keys, stored, stored-pairs, restored, pair-place, entry-checks}
+use Rattle.seats.specs.Images.{Entry, listed-from, conflict-entries, Contents, Counts, keys, stored, stored-pairs, restored, pair-place, entry-checks}
 
 -- The entries of a set's members below w, ascending.
 unfoldable pub member-entries : ℕ → ℕ → (ℕ → Entry) → List Entry
@@ -27,6 +27,10 @@ row-entries lower row = member-entries privilege-count row (λ n. record { key =
 -- The conflicts that a table declares.
 abbrev pub pair-entries : List ℕ → List Entry
 pair-entries C = conflict-entries (graph-of empty [] C)
+
+-- Counts that the trailer's bytes hold.
+abbrev pub Small : Counts → Type 0
+Small n = (n .roles < 256) × (n .seats < 256) × (n .conflicts < 65536)
 
 -- ---- entries read and tested
 -- The entry of a key and a value.

@@ -41,6 +41,22 @@ conflict-entries g =
 unfoldable pub seat-entries : State → List Entry
 seat-entries s = listed-from 0 seat-count (λ i. not (eqb (at (s .seats) i) empty)) (λ i. record { key = i; value = at (s .seats) i })
 
+-- What an image holds: MaxRole's set, and the entries of the roles, the conflicts and the seats.
+pub record Contents : Type 0 where
+  pub top : ℕ
+  pub roles : List Entry
+  pub conflicts : List Entry
+  pub seats : List Entry
+
+-- What the image of a state holds.
+abbrev pub contents-of : State → Contents
+contents-of s = record {
+  top = effective (s .graph) max-role;
+  roles = role-entries (s .graph);
+  conflicts = conflict-entries (s .graph);
+  seats = seat-entries s;
+}
+
 -- ---- the bytes
 
 -- How many bytes the value of an entry takes: a set 8, a privilege 1.
@@ -50,34 +66,55 @@ set-bytes = 8
 abbrev pub privilege-bytes : ℕ
 privilege-bytes = 1
 
+-- How many bytes an entry takes: one for its key, and its value's.
+abbrev pub set-entry : ℕ
+set-entry = 1 + set-bytes
+
+abbrev pub privilege-entry : ℕ
+privilege-entry = 1 + privilege-bytes
+
 -- The bytes of entries whose values take n bytes each.
 unfoldable pub entry-bytes : ℕ → List Entry → List ℕ
 entry-bytes n [] = []
 entry-bytes n (e ∷ l) = (e .key ∷ bytes-of n (e .value)) ++ entry-bytes n l
 
+-- How many bytes the trailer takes.
+abbrev pub trailer-length : ℕ
+trailer-length = 8
+
 -- The bytes of an image without a role, a seat or a conflict: none is shorter.
 abbrev pub least-image : ℕ
-least-image = 16
+least-image = set-bytes + trailer-length
 
--- The distance from an image's end back to its start, by the numbers of its roles, seats and conflicts.
-unfoldable pub distance : ℕ → ℕ → ℕ → ℕ
-distance roles seats conflicts = least-image + 9 * roles + 9 * seats + 2 * conflicts
+-- How many roles, seats and conflicts an image has.
+pub record Counts : Type 0 where
+  pub roles : ℕ
+  pub seats : ℕ
+  pub conflicts : ℕ
+
+-- How many of each the contents are.
+abbrev pub counts-of : Contents → Counts
+counts-of c = record { roles = length (c .roles); seats = length (c .seats); conflicts = length (c .conflicts) }
+
+-- The distance from an image's end back to its start.
+unfoldable pub distance : Counts → ℕ
+distance n = least-image + set-entry * n .roles + set-entry * n .seats + privilege-entry * n .conflicts
 
 -- The trailer: distance, roles, seats, conflicts.
-unfoldable pub trailer : ℕ → ℕ → ℕ → List ℕ
-trailer roles seats conflicts = bytes-of 4 (distance roles seats conflicts) ++ (bytes-of 1 roles ++ (bytes-of 1 seats ++ bytes-of 2 conflicts))
+unfoldable pub trailer : Counts → List ℕ
+trailer n = bytes-of 4 (distance n) ++ (bytes-of 1 (n .roles) ++ (bytes-of 1 (n .seats) ++ bytes-of 2 (n .conflicts)))
 
 -- The parts of an image in order: MaxRole's set, roles, conflicts, seats, trailer.
-unfoldable pub parts : ℕ → List Entry → List Entry → List Entry → List ℕ
-parts top roles conflicts seats =
-    bytes-of set-bytes top
-    ++ (entry-bytes set-bytes roles
-    ++ (entry-bytes privilege-bytes conflicts
-    ++ (entry-bytes set-bytes seats ++ trailer (length roles) (length seats) (length conflicts))))
+unfoldable pub parts : Contents → List ℕ
+parts c =
+    bytes-of set-bytes (c .top)
+    ++ (entry-bytes set-bytes (c .roles)
+    ++ (entry-bytes privilege-bytes (c .conflicts)
+    ++ (entry-bytes set-bytes (c .seats) ++ trailer (counts-of c))))
 
 -- The image of a state.
 unfoldable pub image : State → List ℕ
-image s = parts (effective (s .graph) max-role) (role-entries (s .graph)) (conflict-entries (s .graph)) (seat-entries s)
+image s = parts (contents-of s)
 
 -- ---- reading
 
@@ -86,20 +123,20 @@ unfoldable pub entries-at : ℕ → ℕ → ℕ → List ℕ → List Entry
 entries-at n i zero l = []
 entries-at n i (suc count) l = record { key = getD l i 0; value = number-at n (suc i) l } ∷ entries-at n (suc i + n) count l
 
--- What an image holds, read before anything is judged.
-pub record Contents : Type 0 where
-  pub top : ℕ
-  pub roles : List Entry
-  pub conflicts : List Entry
-  pub seats : List Entry
+-- The distance and the counts that the trailer before place `end` has.
+unfoldable pub far-at : List ℕ → ℕ → ℕ
+far-at l end = number-at 4 (end - trailer-length) l
 
--- The contents at place i of the bytes, with so many roles, seats and conflicts.
-unfoldable pub contents : List ℕ → ℕ → ℕ → ℕ → ℕ → Contents
-contents l i roles seats conflicts = record {
+unfoldable pub counts-at : List ℕ → ℕ → Counts
+counts-at l end = record { roles = number-at 1 (end - 4) l; seats = number-at 1 (end - 3) l; conflicts = number-at 2 (end - 2) l }
+
+-- The contents at place i of the bytes, so many, read before anything is judged.
+unfoldable pub contents : List ℕ → ℕ → Counts → Contents
+contents l i n = record {
   top = number-at set-bytes i l;
-  roles = entries-at set-bytes (i + 8) roles l;
-  conflicts = entries-at privilege-bytes (i + 8 + 9 * roles) conflicts l;
-  seats = entries-at set-bytes (i + 8 + 9 * roles + 2 * conflicts) seats l;
+  roles = entries-at set-bytes (i + set-bytes) (n .roles) l;
+  conflicts = entries-at privilege-bytes (i + set-bytes + set-entry * n .roles) (n .conflicts) l;
+  seats = entries-at set-bytes (i + set-bytes + set-entry * n .roles + privilege-entry * n .conflicts) (n .seats) l;
 }
 
 -- The keys of the entries as a set.
@@ -195,19 +232,18 @@ load-contents c =
     let s = restored c in
     unless-refused (verdict (entry-checks c ++ content-checks s)) s
 
--- The image that ends the bytes, by the distance and the numbers of roles, seats and conflicts in its trailer.
-unfoldable pub load-trailer : List ℕ → ℕ → ℕ → ℕ → ℕ → Loaded
-load-trailer l far roles seats conflicts =
-    cond (eqb far (distance roles seats conflicts) && leb far (length l))
-    (load-contents (contents l (length l - far) roles seats conflicts))
+-- The image that ends the bytes, by the distance and the counts in its trailer.
+unfoldable pub load-trailer : List ℕ → ℕ → Counts → Loaded
+load-trailer l far n =
+    cond (eqb far (distance n) && leb far (length l))
+    (load-contents (contents l (length l - far) n))
     (not-loaded 6 0)
 
 -- Loading from any bytes.
 unfoldable pub load : List ℕ → Loaded
 load l =
     let end = length l in
-    cond (ltb end least-image) (not-loaded 6 0)
-    (load-trailer l (number-at 4 (end - 8) l) (number-at 1 (end - 4) l) (number-at 1 (end - 3) l) (number-at 2 (end - 2) l))
+    cond (ltb end least-image) (not-loaded 6 0) (load-trailer l (far-at l end) (counts-at l end))
 
 -- The answer to a load and the state it leaves; a refused load keeps the state at hand.
 unfoldable pub settle-load : State → Loaded → Answer × State

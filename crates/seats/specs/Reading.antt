@@ -7,6 +7,7 @@ use Rattle.seats.specs.Seats.{State}
 use Rattle.seats.specs.Calls.{Call, change, declare, lift, assign, unassign, ask, Answer, accepted, answered, refused, with-conflicts, with-seats}
 use Rattle.seats.specs.Records.{Decoded, malformed, well-formed}
 use Rattle.seats.specs.Bytes.{Filled, written, too-short}
+use Rattle.seats.specs.Images.{Counts}
 use Rattle.seats.specs.declared.State as state-struct
 use Rattle.seats.specs.declared.Request as request-enum
 use Rattle.seats.specs.declared.Request.the-variants as requests
@@ -20,6 +21,7 @@ use Rattle.seats.specs.declared.Stored as stored-enum
 use Rattle.seats.specs.declared.Stored.the-variants as storings
 use Rattle.seats.specs.declared.Decision as decision-struct
 use Rattle.seats.specs.declared.Changed as changed-struct
+use Rattle.seats.specs.declared.Counts as counts-struct
 use Rattle.seats.specs.declared.Fed as fed-struct
 use Rattle.seats.specs.declared.Filled as filled-enum
 use Rattle.seats.specs.declared.Filled.the-variants as fillings
@@ -60,6 +62,10 @@ read-answer (answers.Refused r) = refused (r .number) (r .place)
 unfoldable pub read-filled : filled-enum.Filled → Filled
 read-filled (fillings.Written n) = written n
 read-filled (fillings.TooShort r) = too-short (r .number) (r .place)
+
+-- How many roles, seats and conflicts an image has.
+abbrev pub read-counts : counts-struct.Counts → Counts
+read-counts n = record { roles = n .roles; seats = n .seats; conflicts = n .conflicts }
 
 -- The state with what a decision stores: nothing, the conflicts of a privilege, or the roles of a seat.
 unfoldable pub stored : State → stored-enum.Stored → State

@@ -2,7 +2,7 @@
 pub mod answers;
 pub mod deciding;
 mod endian;
-mod layout;
+mod image;
 pub mod lent;
 pub mod loading;
 pub mod reader;
@@ -108,6 +108,13 @@ pub struct Stepped {
 pub struct Loaded {
     pub answer: Answer,
     pub state: State,
+}
+
+// How many roles, seats and conflicts an image has.
+pub struct Counts {
+    pub roles: usize,
+    pub seats: usize,
+    pub conflicts: usize,
 }
 
 // What filling a lent buffer answers: the length written, or a refusal.

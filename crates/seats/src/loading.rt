@@ -11,21 +11,26 @@ ghost use Rattle.graph.specs.Refusing.{passed, verdict};
 ghost use Rattle.graph.specs.Refusing as refusing;
 ghost use Rattle.graph.specs.Reading.{drawn-from};
 ghost use Rattle.seats.specs.Calls.{refused};
-ghost use Rattle.seats.specs.Images.{set-bytes, privilege-bytes, distance, entries-at, contents, pair-place, content-checks};
-ghost use Rattle.seats.specs.Reading.{state-of, read-answer, read-state};
+ghost use Rattle.seats.specs.Images.{set-bytes, privilege-bytes, set-entry, privilege-entry, distance, entries-at, contents, pair-place, content-checks};
+ghost use Rattle.seats.specs.Reading.{state-of, read-answer, read-state, read-counts};
 ghost use Rattle.seats.specs.Promises.{LoadPromise};
 ghost use Rattle.seats.specs.ImageWork.{entry-of, numbered, paired, TableRead, PairsRead, ContentsRead};
 use crate::Answer;
+use crate::Counts;
 use crate::Loaded;
 use crate::State;
 use crate::answers::refusal;
-use crate::endian::half;
 use crate::endian::quad;
-use crate::endian::wide;
 use crate::endian::word;
-use crate::layout::ENDS;
-use crate::layout::distance;
-use crate::layout::only;
+use crate::image::ENDS;
+use crate::image::LEAST;
+use crate::image::PRIVILEGE_ENTRY;
+use crate::image::SET;
+use crate::image::SET_ENTRY;
+use crate::image::TRAILER;
+use crate::image::counts_at;
+use crate::image::distance;
+use crate::image::only;
 use crate::searches::pair_seat;
 use graph::refusing::empty_role;
 use graph::refusing::pair_role;
@@ -72,7 +77,7 @@ fn read_table(
     allowed: u64,
     table: &mut [u64; 64],
 ) -> Keys
-    requires { ⌜ at + 9 * count ≤ length (now bytes) ⌝ }
+    requires { ⌜ at + set-entry * count ≤ length (now bytes) ⌝ }
     ensures { λ r. ⌜ TableRead (entries-at set-bytes at count (now (bytes .entry))) low least allowed (now (table .entry)) (now (table .exit)) (r .set) (r .sound) ⌝ }
 {
     let mut set: u64 = 0;
@@ -89,7 +94,7 @@ fn read_table(
         set = sets::union(set, only(k));
         table[k] = value;
         floor = key + 1;
-        place += 9;
+        place += SET_ENTRY;
         left -= 1;
     }
     Keys { set, sound: true }
@@ -110,7 +115,7 @@ fn admits_pair(low: usize, lower: u8, higher: u8) -> bool
 
 // Puts count conflicts, strictly ascending, into a table; gives whether none of them is refused.
 fn read_pairs(bytes: &[u8], at: usize, count: usize, table: &mut [u64; 64]) -> bool
-    requires { ⌜ at + 2 * count ≤ length (now bytes) ⌝ }
+    requires { ⌜ at + privilege-entry * count ≤ length (now bytes) ⌝ }
     ensures { λ r. ⌜ PairsRead (entries-at privilege-bytes at count (now (bytes .entry))) (now (table .entry)) (now (table .exit)) r ⌝ }
 {
     let mut floor: usize = 0;
@@ -126,28 +131,28 @@ fn read_pairs(bytes: &[u8], at: usize, count: usize, table: &mut [u64; 64]) -> b
         let b = higher as usize;
         table[a] = sets::union(table[a], only(b));
         floor = 256 * a + b + 1;
-        place += 2;
+        place += PRIVILEGE_ENTRY;
         left -= 1;
     }
     true
 }
 
-// The contents at a place, with so many roles, seats and conflicts.
-fn read_contents(bytes: &[u8], at: usize, r: usize, s: usize, c: usize) -> Contents
-    requires { ⌜ at + distance r s c ≤ length (now bytes) ⌝ }
-    ensures { λ x. ⌜ ContentsRead (contents (now (bytes .entry)) at r s c) (read-state (x .state)) (x .sound) ⌝ }
+// The contents at a place, so many.
+fn read_contents(bytes: &[u8], at: usize, counts: Counts) -> Contents
+    requires { ⌜ at + distance (read-counts counts) ≤ length (now bytes) ⌝ }
+    ensures { λ x. ⌜ ContentsRead (contents (now (bytes .entry)) at (read-counts counts)) (read-state (x .state)) (x .sound) ⌝ }
 {
-    let roles_at = at + 8;
-    let conflicts_at = roles_at + 9 * r;
-    let seats_at = conflicts_at + 2 * c;
+    let roles_at = at + SET;
+    let conflicts_at = roles_at + SET_ENTRY * counts.roles;
+    let seats_at = conflicts_at + PRIVILEGE_ENTRY * counts.conflicts;
     let mut sets = [0u64; 64];
     sets[1] = word(bytes, at);
-    let roles = read_table(bytes, roles_at, r, 2, 0, ALL, &mut sets);
+    let roles = read_table(bytes, roles_at, counts.roles, 2, 0, ALL, &mut sets);
     let mut conflicts = [0u64; 64];
-    let pairs = read_pairs(bytes, conflicts_at, c, &mut conflicts);
+    let pairs = read_pairs(bytes, conflicts_at, counts.conflicts, &mut conflicts);
     let mut seats = [0u64; 64];
     let present = roles.set;
-    let seated = read_table(bytes, seats_at, s, 0, 1, present, &mut seats);
+    let seated = read_table(bytes, seats_at, counts.seats, 0, 1, present, &mut seats);
     let state = State {
         roles: present,
         sets,
@@ -216,20 +221,18 @@ pub fn load(state: State, bytes: &[u8]) -> Loaded
     ensures { λ r. ⌜ LoadPromise state (now (bytes .entry)) (r .answer) (r .state) ⌝ }
 {
     let end = bytes.len();
-    if end < 16 {
+    if end < LEAST {
         return refuse(state, 6);
     }
-    let far = quad(bytes, end - 8) as usize;
-    let r = wide(bytes[end - 4]) as usize;
-    let s = wide(bytes[end - 3]) as usize;
-    let c = half(bytes, end - 2) as usize;
-    if far != distance(r, s, c) {
+    let far = quad(bytes, end - TRAILER) as usize;
+    let counts = counts_at(bytes, end);
+    if far != distance(counts) {
         return refuse(state, 6);
     }
     if end < far {
         return refuse(state, 6);
     }
-    let found = read_contents(bytes, end - far, r, s, c);
+    let found = read_contents(bytes, end - far, counts);
     if !found.sound {
         return refuse(state, 7);
     }

@@ -12,14 +12,17 @@ ghost use Rattle.graph.specs.Conflicts.{conflict};
 ghost use Rattle.seats.specs.Seats.{seat-count};
 ghost use Rattle.seats.specs.Bytes.{bytes-of};
 ghost use Rattle.seats.specs.Written.{Written};
-ghost use Rattle.seats.specs.Images.{set-bytes, privilege-bytes, entry-bytes, trailer};
+ghost use Rattle.seats.specs.Images.{set-bytes, privilege-bytes, entry-bytes, trailer-length, trailer};
 ghost use Rattle.seats.specs.Saving.{save};
-ghost use Rattle.seats.specs.Reading.{state-of, read-filled};
-ghost use Rattle.seats.specs.ImageWork.{table-entries, row-entries, pair-entries};
+ghost use Rattle.seats.specs.Reading.{state-of, read-counts, read-filled};
+ghost use Rattle.seats.specs.ImageWork.{Small, table-entries, row-entries, pair-entries};
+use crate::Counts;
 use crate::Filled;
-use crate::layout::ENDS;
-use crate::layout::distance;
-use crate::layout::only;
+use crate::image::ENDS;
+use crate::image::PRIVILEGE;
+use crate::image::SET;
+use crate::image::distance;
+use crate::image::only;
 use crate::writing::put_byte;
 use crate::writing::put_number;
 use crate::writing::too_short;
@@ -44,7 +47,7 @@ fn put_table(buffer: &mut [u8], at: usize, keys: u64, table: &[u64]) -> usize
     while rest != 0 {
         let k = sets::lowest_member(rest);
         let i = k as usize;
-        place = put_entry(buffer, place, 8, k as u8, entry(table, i));
+        place = put_entry(buffer, place, SET, k as u8, entry(table, i));
         rest = sets::without_lowest(rest);
     }
     place
@@ -59,7 +62,7 @@ fn put_row(buffer: &mut [u8], at: usize, lower: u8, row: u64) -> usize
     let mut rest = row;
     while rest != 0 {
         let higher = sets::lowest_member(rest) as u64;
-        place = put_entry(buffer, place, 1, lower, higher);
+        place = put_entry(buffer, place, PRIVILEGE, lower, higher);
         rest = sets::without_lowest(rest);
     }
     place
@@ -124,15 +127,15 @@ fn occupied(seats: &[u64]) -> u64
 }
 
 // The trailer.
-fn put_trailer(buffer: &mut [u8], at: usize, roles: usize, seats: usize, conflicts: usize) -> usize
-    requires { ⌜ (at + 8 ≤ length (now buffer)) × (roles < 256) × (seats < 256) × (conflicts < 65536) ⌝ }
-    ensures { λ r. ⌜ Written (now (buffer .entry)) at (trailer roles seats conflicts) (now (buffer .exit)) r ⌝ }
+fn put_trailer(buffer: &mut [u8], at: usize, counts: Counts) -> usize
+    requires { ⌜ (at + trailer-length ≤ length (now buffer)) × Small (read-counts counts) ⌝ }
+    ensures { λ r. ⌜ Written (now (buffer .entry)) at (trailer (read-counts counts)) (now (buffer .exit)) r ⌝ }
 {
-    let far = distance(roles, seats, conflicts);
+    let far = distance(counts);
     let a = put_number(buffer, at, 4, far as u64);
-    let b = put_number(buffer, a, 1, roles as u64);
-    let c = put_number(buffer, b, 1, seats as u64);
-    put_number(buffer, c, 2, conflicts as u64)
+    let b = put_number(buffer, a, 1, counts.roles as u64);
+    let c = put_number(buffer, b, 1, counts.seats as u64);
+    put_number(buffer, c, 2, counts.conflicts as u64)
 }
 
 // The image at the buffer's front and its length; refusal 9, before anything is touched, where the buffer is shorter.
@@ -150,14 +153,19 @@ pub fn save<'a>(
     let r = sets::size(ordinary) as usize;
     let s = sets::size(taken) as usize;
     let c = count_conflicts(conflicts);
-    let length = distance(r, s, c);
+    let counts = Counts {
+        roles: r,
+        seats: s,
+        conflicts: c,
+    };
+    let length = distance(counts);
     if buffer.len() < length {
         return too_short(9);
     }
-    let roles_at = put_number(buffer, 0, 8, entry(sets, 1));
+    let roles_at = put_number(buffer, 0, SET, entry(sets, 1));
     let conflicts_at = put_table(buffer, roles_at, ordinary, sets);
     let seats_at = put_conflicts(buffer, conflicts_at, conflicts);
     let trailer_at = put_table(buffer, seats_at, taken, seats);
-    put_trailer(buffer, trailer_at, r, s, c);
+    put_trailer(buffer, trailer_at, counts);
     Filled::Written(length)
 }

@@ -5,31 +5,26 @@ use borrow.Author.Tests.{not-true, not-false}
 use mathlib.Core.Path.{_≡_, sym, _∙_}
 use Prim.Native.Nat.{_-_}
 use lib.ListN.{length}
-use Rattle.seats.specs.Images.{contents, load-contents, load}
-use Rattle.seats.specs.Reading.{read-answer}
-use Rattle.seats.proofs.Words.{one-byte, four-bytes}
-use Rattle.seats.proofs.LoadChecks.{Trailed, too-few-bytes, other-distance, beyond-bytes, contents-decide, entries-refused, state-refused, state-loaded, refused-load, accepted-load}
+use Rattle.seats.specs.Images.{far-at, contents, load-contents, load}
+use Rattle.seats.specs.Reading.{read-answer, read-counts}
+use Rattle.seats.proofs.Words.{four-bytes}
+use Rattle.seats.proofs.LoadChecks.{too-few-bytes, other-distance, beyond-bytes, contents-decide, entries-refused, state-refused, state-loaded, refused-load, accepted-load}
 use Rattle.seats.proofs.loading.load.Statement.{statement}
 use Rattle.seats.proofs.loading.load.Tie as tie
 
--- The trailer as it was read.
-trailed : (c : tie.After-half) → Trailed (c .before .before .before .before .before .before .before .before .args .bytes .now) (c .before .before .before .before .before .quad .result) (c .before .before .before .wide .result) (c .before .wide2 .result) (c .half .result)
-trailed c = record {
-  far-is = c .before .before .before .before .before .quad .ensures .0 ∙ four-bytes _ _;
-  roles-are = c .before .before .before .wide .ensures .0 ∙ one-byte _ _;
-  seats-are = c .before .wide2 .ensures .0 ∙ one-byte _ _;
-  conflicts-are = c .half .ensures .0;
-}
+-- The distance as it was read.
+far-is : (c : tie.After-counts-at) → let l = c .before .before .before .before .args .bytes .now in c .before .quad .result ≡ far-at l (length l)
+unfolding far-at
+far-is c = c .before .quad .ensures .0 ∙ four-bytes _ _
 
 -- Past the returns with 6 the contents decide.
 placed : (c : tie.Else3) → (
     let b = c .before .before .before in
-    let l = b .before .before .before .before .before .before .before .before .args .bytes .now in
-    let far = b .before .before .before .before .before .quad .result in
-    load l ≡ load-contents (contents l (length l - far) (b .before .before .before .wide .result) (b .before .wide2 .result) (b .half .result)))
+    let l = b .before .before .before .before .args .bytes .now in
+    load l ≡ load-contents (contents l (length l - b .before .quad .result) (read-counts (b .counts-at .result))))
 placed c =
     let b = c .before .before .before in
-    contents-decide (b .before .before .before .before .before .before .if1 .left) (trailed b) (c .before .if2 .left ∙ c .before .before .distance .ensures .0) (c .if3 .left)
+    contents-decide _ (b .before .before .if1 .left) (far-is b) (b .counts-at .ensures .0) (c .before .if2 .left ∙ c .before .before .distance .ensures .0) (c .if3 .left)
 
 refuse-requires : tie.Need-refuse-requires
 refuse-requires c κs = search needs
@@ -43,29 +38,8 @@ sub-quad c = search needs
 quad-requires : tie.Need-quad-requires
 quad-requires c κs = search needs
 
-sub-wide : tie.Need-sub-wide
-sub-wide c = search needs
-
-shared-slice-read-wide : tie.Need-shared-slice-read-wide
-shared-slice-read-wide c = search needs
-
-wide-requires : tie.Need-wide-requires
-wide-requires c κs = search needs
-
-sub-wide-2 : tie.Need-sub-wide-2
-sub-wide-2 c = search needs
-
-shared-slice-read-wide-2 : tie.Need-shared-slice-read-wide-2
-shared-slice-read-wide-2 c = search needs
-
-wide-requires-2 : tie.Need-wide-requires-2
-wide-requires-2 c κs = search needs
-
-sub-half : tie.Need-sub-half
-sub-half c = search needs
-
-half-requires : tie.Need-half-requires
-half-requires c κs = search needs
+counts-at-requires : tie.Need-counts-at-requires
+counts-at-requires c κs = search needs
 
 distance-requires : tie.Need-distance-requires
 distance-requires c κs = search needs
@@ -76,7 +50,7 @@ refuse-requires-2 c κs = search needs
 returns-2 : tie.Need-returns-2
 returns-2 c =
     let b = c .before .before .before in
-    let e = other-distance (b .before .before .before .before .before .before .if1 .left) (trailed b) (λ e. c .before .if2 .taken (e ∙ sym (c .before .before .distance .ensures .0))) in
+    let e = other-distance _ (b .before .before .if1 .left) (far-is b) (b .counts-at .ensures .0) (λ e. c .before .if2 .taken (e ∙ sym (c .before .before .distance .ensures .0))) in
     refused-load _ _ 6 e (c .refuse2 .ensures .0) (c .refuse2 .ensures .1)
 
 refuse-requires-3 : tie.Need-refuse-requires-3
@@ -85,7 +59,7 @@ refuse-requires-3 c κs = search needs
 returns-3 : tie.Need-returns-3
 returns-3 c =
     let b = c .before .before .before .before in
-    let e = beyond-bytes (b .before .before .before .before .before .before .if1 .left) (trailed b) (c .before .before .if2 .left ∙ c .before .before .before .distance .ensures .0) (c .before .if3 .taken) in
+    let e = beyond-bytes _ (b .before .before .if1 .left) (far-is b) (b .counts-at .ensures .0) (c .before .before .if2 .left ∙ c .before .before .before .distance .ensures .0) (c .before .if3 .taken) in
     refused-load _ _ 6 e (c .refuse3 .ensures .0) (c .refuse3 .ensures .1)
 
 read-contents-requires : tie.Need-read-contents-requires
@@ -127,14 +101,7 @@ load-spec =
     returns
     sub-quad
     quad-requires
-    sub-wide
-    shared-slice-read-wide
-    wide-requires
-    sub-wide-2
-    shared-slice-read-wide-2
-    wide-requires-2
-    sub-half
-    half-requires
+    counts-at-requires
     distance-requires
     refuse-requires-2
     returns-2

@@ -4,6 +4,7 @@ use borrow.Author.Needs.{needs}
 use Prim.Native.Nat.{ℕ, _<_}
 use lib.ListN.{getD}
 use Rattle.seats.specs.Images.{distance, contents}
+use Rattle.seats.specs.Reading.{read-counts}
 use Rattle.seats.proofs.Entries.{entries-lt}
 use Rattle.seats.proofs.EntryReading.{places-bytes}
 use Rattle.seats.proofs.LoadChecks.{contents-read}
@@ -51,11 +52,12 @@ read-table-requires-2 c κs = search needs
 returns : tie.Need-returns
 unfolding contents
 returns c =
-    let e = c .before .before .before .before .before .before .before .before .before in
+    let w = c .before .before .before .before .before .before .before .before in
+    let e = w .before .before .before in
     let s = e .before .args in
     let h : (i : ℕ) → getD (s .bytes .now) i 0 < 256 = λ i. e .shared-slice-known .given i .fits in
-    contents-read (contents (s .bytes .now) (s .at) (s .r) (s .s) (s .c)) (entries-lt 8 _ _ _ (places-bytes _ h))
-    (rw (c .before .before .before .before .before .before .before .before .word .ensures) at (c .before .before .before .before .before .before .read-table .ensures))
+    contents-read (contents (s .bytes .now) (s .at) (read-counts (s .counts))) (entries-lt 8 _ _ _ (places-bytes _ h))
+    (rw (w .word .ensures) at (c .before .before .before .before .before .before .read-table .ensures))
     (c .before .before .before .before .read-pairs .ensures)
     (c .before .before .read-table2 .ensures)
 

@@ -9,7 +9,7 @@ use Rattle.sets.proofs.Laws.{size-bound}
 use lib.ListN.{length}
 use Rattle.seats.specs.Bytes.{bytes-of}
 use Rattle.seats.specs.Seats.{State}
-use Rattle.seats.specs.Images.{entry-bytes, trailer, image}
+use Rattle.seats.specs.Images.{entry-bytes, Counts, trailer, image}
 use Rattle.seats.specs.Reading.{state-of, read-filled}
 use Rattle.seats.specs.ImageWork.{table-entries, pair-entries}
 use Rattle.seats.proofs.Numbers.{length-bytes-of}
@@ -26,7 +26,11 @@ state c = state-of (c .args .roles) (c .args .sets .now) (c .args .conflicts .no
 abbrev entered : tie.After-distance → tie.Start
 entered c = c .before .before .before .before .before .before .before .before .before .before
 
-counted : (c : tie.After-distance) → Counted (state (entered c)) (c .before .before .before .before .before .difference .result) (c .before .before .before .before .occupied .result) (c .before .before .before .size .result) (c .before .before .size2 .result) (c .before .count-conflicts .result) (c .distance .result)
+-- What was counted.
+abbrev counts : tie.After-distance → Counts
+counts c = record { roles = c .before .before .before .size .result; seats = c .before .before .size2 .result; conflicts = c .before .count-conflicts .result }
+
+counted : (c : tie.After-distance) → Counted (state (entered c)) (c .before .before .before .before .before .difference .result) (c .before .before .before .before .occupied .result) (counts c) (c .distance .result)
 counted c = record {
   ordinary-are = c .before .before .before .before .before .difference .ensures;
   occupied-are = c .before .before .before .before .occupied .ensures;
@@ -54,7 +58,7 @@ module _ (c : tie.Else1) where
   seats-part = entry-bytes 8 (table-entries (c .before .before .before .before .before .occupied .result) (start .args .seats .now))
 
   abbrev trailer-part : List ℕ
-  trailer-part = trailer (c .before .before .before .before .size .result) (c .before .before .before .size2 .result) (c .before .before .count-conflicts .result)
+  trailer-part = trailer (counts (c .before))
 
   -- With this buffer and place, the rest is left to write.
   abbrev Left : List ℕ → ℕ → List ℕ → Type 0
@@ -153,13 +157,12 @@ put-trailer-requires : tie.Need-put-trailer-requires
 put-trailer-requires c κs =
     let b = c .before .before .before in
     let o = seats-from b in
-    let l = length-trailer (o .before .before .before .before .size .result) (o .before .before .before .size2 .result) (o .before .before .count-conflicts .result) in
+    let l = length-trailer (counts (o .before)) in
     let u = seats-written b in
     let p = u .place in
     let n = unwritten-length u in
     let f = fits o in
-    let (h, k, m) = few (o .before .before) in
-    (omega arith, h, k, m)
+    (omega arith, few (o .before .before))
 
 same-length : tie.Need-same-length
 same-length c = search needs

@@ -1,10 +1,10 @@
--- `seats::layout::distance` meets its contract: it is the definition's sum.
+-- `seats::image::distance` meets its contract: it is the definition's sum.
 -- Assumes nothing.
 use borrow.Author.Needs.{needs}
 use mathlib.Core.Path.{refl}
 use Rattle.seats.specs.Images.{distance}
-use Rattle.seats.proofs.layout.distance.Statement.{statement}
-use Rattle.seats.proofs.layout.distance.Tie as tie
+use Rattle.seats.proofs.image.distance.Statement.{statement}
+use Rattle.seats.proofs.image.distance.Tie as tie
 
 mul-result : tie.Need-mul-result
 mul-result c = search needs

@@ -1,11 +1,11 @@
--- `seats::layout::only` meets its contract: a shift of 1 by fewer than 64 places loses no digit.
+-- `seats::image::only` meets its contract: a shift of 1 by fewer than 64 places loses no digit.
 -- Assumes nothing.
 use borrow.Author.Needs.{needs}
 use native.Mathlib.Nat.{one-mul, mod-eq-of-lt}
 use Rattle.sets.specs.Sets.{single}
 use Rattle.sets.proofs.Laws.{single-lt}
-use Rattle.seats.proofs.layout.only.Statement.{statement}
-use Rattle.seats.proofs.layout.only.Tie as tie
+use Rattle.seats.proofs.image.only.Statement.{statement}
+use Rattle.seats.proofs.image.only.Tie as tie
 
 shl-result : tie.Need-shl-result
 shl-result c = search needs
