@@ -16,7 +16,7 @@ use Rattle.sets.specs.Sets.{empty, included}
 use Rattle.sets.proofs.Tests.{both, join, passes, fails, decide, equal-test, test-equal}
 use Rattle.graph.specs.Graph.{privilege-count}
 use Rattle.graph.specs.Refusing.{Check, Verdict, passed, refused, verdict}
-use Rattle.graph.specs.Reading.{read-verdict}
+use Rattle.graph.specs.Reading.{sets-in, read-verdict}
 use Rattle.graph.specs.declared.Verdict.the-variants.{Passed, Refused}
 use Rattle.graph.proofs.Refusals.{Passes, verdict-passes}
 use Rattle.graph.proofs.Judging.{stops, moves-on, refused-first, passed-first}
@@ -133,7 +133,7 @@ module _ (c : Contents) (small : Each (λ e. e .value < 2 ^ 64) (c .roles)) {set
       by-roles false e = refl
 
   pub contents-read : ContentsRead c (state-of present sets conflicts seats) ((a && b) && d)
-  unfolding restored entry-checks
+  unfolding restored entry-checks sets-in
   contents-read = record {
     tested =
         alike-verdict 7 0 (entry-checks c)

@@ -8,7 +8,6 @@ use Rattle.sets.specs.Sets.{empty, member, included}
 use Rattle.graph.specs.Tables.{at}
 use Rattle.graph.specs.Graph.{privilege-count}
 use Rattle.graph.specs.Refusing.{passed, refused, verdict}
-use Rattle.graph.specs.Reading.{graph-of}
 use Rattle.seats.specs.Seats.{State}
 use Rattle.seats.specs.Images.{Entry, listed-from, conflict-entries, Contents, Counts, keys, stored, stored-pairs, restored, pair-place, entry-checks}
 
@@ -26,7 +25,7 @@ row-entries lower row = member-entries privilege-count row (λ n. record { key =
 
 -- The conflicts that a table declares.
 abbrev pub pair-entries : List ℕ → List Entry
-pair-entries C = conflict-entries (graph-of empty [] C)
+pair-entries C = conflict-entries (record { roles = empty; sets = []; conflicts = C })
 
 -- Counts that the trailer's bytes hold.
 abbrev pub Small : Counts → Type 0

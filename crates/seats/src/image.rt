@@ -1,4 +1,4 @@
-// What saving and loading share: an image's widths, distance and counts, the end roles, which no image lists, and one-member sets.
+// What saving and loading share: an image's widths, distance and counts, and one-member sets.
 ghost use mathlib.Core.Path.{_≡_};
 ghost use Prim.Native.Nat.{_≤_, _<_};
 ghost use lib.ListN.{length};
@@ -9,9 +9,6 @@ ghost use Rattle.seats.specs.ImageWork.{Small};
 use crate::Counts;
 use crate::endian::half;
 use crate::endian::wide;
-
-// MinRole and MaxRole, as a set.
-pub(crate) const ENDS: u64 = 3;
 
 // How many bytes a set takes, and a privilege.
 pub(crate) const SET: usize = 8;

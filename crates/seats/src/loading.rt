@@ -22,7 +22,6 @@ use crate::State;
 use crate::answers::refusal;
 use crate::endian::quad;
 use crate::endian::word;
-use crate::image::ENDS;
 use crate::image::LEAST;
 use crate::image::PRIVILEGE_ENTRY;
 use crate::image::SET;
@@ -32,9 +31,12 @@ use crate::image::counts_at;
 use crate::image::distance;
 use crate::image::only;
 use crate::searches::pair_seat;
-use graph::refusing::empty_role;
-use graph::refusing::pair_role;
-use graph::refusing::twin_role;
+use graph::drawing::ordinary_roles;
+use graph::privileges;
+use graph::searching::empty_role;
+use graph::searching::pair_role;
+use graph::searching::twin_role;
+use graph::table::entry;
 
 // The set of all roles or privileges.
 const ALL: u64 = 0xffff_ffff_ffff_ffff;
@@ -166,14 +168,14 @@ fn read_contents(bytes: &[u8], at: usize, counts: Counts) -> Contents
 }
 
 // The lowest ordinary role with a privilege that MaxRole lacks; 64 where there is none.
-fn lacking_role(roles: u64, sets: &[u64; 64]) -> usize
+fn lacking_role(roles: u64, sets: &[u64]) -> usize
     ensures { λ r. let g = drawn-from roles (now (sets .entry)) in ⌜ r ≡ lowest role-count (λ r. ordinary g r && not (included (effective g r) (effective g max-role))) ⌝ }
 {
-    let top = sets[1];
-    let mut rest = sets::difference(roles, ENDS);
+    let top = entry(sets, 1);
+    let mut rest = ordinary_roles(roles);
     while rest != 0 {
         let r = sets::lowest_member(rest) as usize;
-        if !sets::included(sets[r], top) {
+        if !privileges::included(entry(sets, r), top) {
             return r;
         }
         rest = sets::without_lowest(rest);
@@ -184,9 +186,9 @@ fn lacking_role(roles: u64, sets: &[u64; 64]) -> usize
 // Whether no condition of refusal 8 holds of a state, tested in their order.
 fn is_sound<'a>(
     roles: u64,
-    sets: &'a [u64; 64],
-    conflicts: &'a [u64; 64],
-    seats: &'a [u64; 64],
+    sets: &'a [u64],
+    conflicts: &'a [u64],
+    seats: &'a [u64],
 ) -> bool
     ensures { λ r. ⌜ verdict (content-checks (state-of roles (now (sets .entry)) (now (conflicts .entry)) (now (seats .entry)))) ≡ cond r passed (refusing.refused 8 0) ⌝ }
 {

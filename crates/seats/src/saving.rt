@@ -9,6 +9,7 @@ ghost use Rattle.sets.specs.Sets.{empty, size, collect};
 ghost use Rattle.graph.specs.Tables.{at};
 ghost use Rattle.graph.specs.Graph.{privilege-count};
 ghost use Rattle.graph.specs.Conflicts.{conflict};
+ghost use Rattle.graph.specs.Reading.{sets-in};
 ghost use Rattle.seats.specs.Seats.{seat-count};
 ghost use Rattle.seats.specs.Bytes.{bytes-of};
 ghost use Rattle.seats.specs.Written.{Written};
@@ -18,7 +19,6 @@ ghost use Rattle.seats.specs.Reading.{state-of, read-counts, read-filled
 ghost use Rattle.seats.specs.ImageWork.{Small, table-entries, row-entries, pair-entries};
 use crate::Counts;
 use crate::Filled;
-use crate::image::ENDS;
 use crate::image::PRIVILEGE;
 use crate::image::SET;
 use crate::image::distance;
@@ -26,7 +26,8 @@ use crate::image::only;
 use crate::writing::put_byte;
 use crate::writing::put_number;
 use crate::writing::too_short;
-use graph::table::entry;
+use graph::drawing::ordinary_roles;
+use graph::table::roles_at;
 
 // An entry: its key, and the n bytes of its value.
 fn put_entry(buffer: &mut [u8], at: usize, n: usize, key: u8, value: u64) -> usize
@@ -47,7 +48,7 @@ fn put_table(buffer: &mut [u8], at: usize, keys: u64, table: &[u64]) -> usize
     while rest != 0 {
         let k = sets::lowest_member(rest);
         let i = k as usize;
-        place = put_entry(buffer, place, SET, k as u8, entry(table, i));
+        place = put_entry(buffer, place, SET, k as u8, roles_at(table, i));
         rest = sets::without_lowest(rest);
     }
     place
@@ -71,11 +72,11 @@ fn put_row(buffer: &mut [u8], at: usize, lower: u8, row: u64) -> usize
 // The higher privileges in conflict with a lower one.
 fn row(conflicts: &[u64], lower: usize) -> u64
     requires { ⌜ lower < privilege-count ⌝ }
-    ensures { λ r. ⌜ r ≡ collect privilege-count (conflict (now (conflicts .entry)) lower) ⌝ }
+    ensures { λ r. ⌜ r ≡ collect privilege-count (conflict (sets-in (now (conflicts .entry))) lower) ⌝ }
 {
     let own = only(lower);
     let not_higher = sets::union(own, own - 1);
-    sets::difference(entry(conflicts, lower), not_higher)
+    sets::difference(roles_at(conflicts, lower), not_higher)
 }
 
 // The conflicts of one row more counted; most rows of an image are empty and cost no count.
@@ -92,7 +93,7 @@ fn counted(n: usize, row: u64) -> usize
 
 // How many conflicts are declared.
 fn count_conflicts(conflicts: &[u64]) -> usize
-    ensures { λ r. ⌜ (r ≡ length (pair-entries (now (conflicts .entry)))) × (r ≤ 2016) ⌝ }
+    ensures { λ r. ⌜ (r ≡ length (pair-entries (sets-in (now (conflicts .entry))))) × (r ≤ 2016) ⌝ }
 {
     let mut n: usize = 0;
     for lower in 0..64usize {
@@ -103,8 +104,8 @@ fn count_conflicts(conflicts: &[u64]) -> usize
 
 // The conflicts, row by row.
 fn put_conflicts(buffer: &mut [u8], at: usize, conflicts: &[u64]) -> usize
-    requires { ⌜ at + length (entry-bytes privilege-bytes (pair-entries (now conflicts))) ≤ length (now buffer) ⌝ }
-    ensures { λ r. ⌜ Written (now (buffer .entry)) at (entry-bytes privilege-bytes (pair-entries (now (conflicts .entry)))) (now (buffer .exit)) r ⌝ }
+    requires { ⌜ at + length (entry-bytes privilege-bytes (pair-entries (sets-in (now conflicts)))) ≤ length (now buffer) ⌝ }
+    ensures { λ r. ⌜ Written (now (buffer .entry)) at (entry-bytes privilege-bytes (pair-entries (sets-in (now (conflicts .entry))))) (now (buffer .exit)) r ⌝ }
 {
     let mut place = at;
     for lower in 0..64u8 {
@@ -120,7 +121,7 @@ fn occupied(seats: &[u64]) -> u64
 {
     let mut found: u64 = 0;
     for i in 0..64usize {
-        let one = sets::when(entry(seats, i) != 0, only(i));
+        let one = sets::when(roles_at(seats, i) != 0, only(i));
         found = sets::union(one, found);
     }
     found
@@ -148,7 +149,7 @@ pub fn save<'a>(
 ) -> Filled
     ensures { λ r. ⌜ (read-filled r, now (buffer .exit)) ≡ save (state-of roles (now (sets .entry)) (now (conflicts .entry)) (now (seats .entry))) (now (buffer .entry)) ⌝ }
 {
-    let ordinary = sets::difference(roles, ENDS);
+    let ordinary = ordinary_roles(roles);
     let taken = occupied(seats);
     let r = sets::size(ordinary) as usize;
     let s = sets::size(taken) as usize;
@@ -162,7 +163,7 @@ pub fn save<'a>(
     if buffer.len() < length {
         return too_short(9);
     }
-    let roles_at = put_number(buffer, 0, SET, entry(sets, 1));
+    let roles_at = put_number(buffer, 0, SET, roles_at(sets, 1));
     let conflicts_at = put_table(buffer, roles_at, ordinary, sets);
     let seats_at = put_conflicts(buffer, conflicts_at, conflicts);
     let trailer_at = put_table(buffer, seats_at, taken, seats);

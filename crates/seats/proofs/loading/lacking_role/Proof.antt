@@ -9,7 +9,8 @@ use Rattle.sets.specs.Sets.{difference, included}
 use Rattle.sets.proofs.Laws.{difference-lt}
 use Rattle.graph.specs.Tables.{at}
 use Rattle.graph.specs.Graph.{role-count, effective}
-use Rattle.graph.proofs.Searching.{Search, starts, visit-lt, hit, goes-on, falls, miss, among-ordinary}
+use Rattle.graph.specs.Reading.{read-set, sets-in, drawn-from}
+use Rattle.graph.proofs.Searches.{Search, starts, hit, goes-on, falls, miss, among-ordinary}
 use Rattle.seats.proofs.loading.lacking_role.Statement.{statement}
 use Rattle.seats.proofs.loading.lacking_role.Tie as tie
 
@@ -18,19 +19,19 @@ abbrev lacks : ℕ → List ℕ → ℕ → Bool
 lacks top sets r = not (included (at sets r) top)
 
 abbrev Inv-loop : tie.InvT-loop
-Inv-loop roles sets top rest₀ rest = Search role-count (lacks top sets) (difference roles 3) rest
+Inv-loop roles sets top rest₀ rest = Search role-count (lacks (read-set top) (sets-in sets)) (difference roles 3) rest
 
 abbrev μ-loop : tie.MeasureT-loop
 μ-loop roles sets top rest₀ rest = rest
 
-element-copy-out-top : tie.Need-element-copy-out-top Inv-loop μ-loop
-element-copy-out-top c = search needs
+entry-requires : tie.Need-entry-requires Inv-loop μ-loop
+entry-requires c κs = tt
 
-difference-requires : tie.Need-difference-requires Inv-loop μ-loop
-difference-requires c κs = search needs
+ordinary-roles-requires : tie.Need-ordinary-roles-requires Inv-loop μ-loop
+ordinary-roles-requires c κs = tt
 
 loop-holds : tie.Need-loop-holds Inv-loop μ-loop
-loop-holds c = rw (c .difference .ensures) (starts role-count _ _ (difference-lt role-count _ _ (search needs)))
+loop-holds c = rw (c .ordinary-roles .ensures) (starts role-count _ _ (difference-lt role-count _ _ (search needs)))
 
 lowest-member-requires : tie.Need-lowest-member-requires Inv-loop μ-loop
 lowest-member-requires c κs = search needs
@@ -38,11 +39,8 @@ lowest-member-requires c κs = search needs
 cast-r : tie.Need-cast-r Inv-loop μ-loop
 cast-r c = search needs
 
-mul-included : tie.Need-mul-included Inv-loop μ-loop
-mul-included c = search needs
-
-element-copy-out-included : tie.Need-element-copy-out-included Inv-loop μ-loop
-element-copy-out-included c = visit-lt (c .before .before .loop .inv) (c .before .loop-test .taken) (c .lowest-member .ensures)
+entry-requires-2 : tie.Need-entry-requires-2 Inv-loop μ-loop
+entry-requires-2 c κs = tt
 
 included-requires : tie.Need-included-requires Inv-loop μ-loop
 included-requires c κs = search needs
@@ -79,13 +77,12 @@ lacking-role-spec =
     (tie.spec
     Inv-loop
     μ-loop
-    element-copy-out-top
-    difference-requires
+    entry-requires
+    ordinary-roles-requires
     loop-holds
     lowest-member-requires
     cast-r
-    mul-included
-    element-copy-out-included
+    entry-requires-2
     included-requires
     returns
     without-lowest-requires

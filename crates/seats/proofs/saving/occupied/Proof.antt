@@ -26,8 +26,8 @@ loop-holds : tie.Need-loop-holds Inv-loop μ-loop
 unfolding collect
 loop-holds c = (search needs, refl)
 
-entry-requires : tie.Need-entry-requires Inv-loop μ-loop
-entry-requires c κs = search needs
+roles-at-requires : tie.Need-roles-at-requires Inv-loop μ-loop
+roles-at-requires c κs = search needs
 
 only-requires : tie.Need-only-requires Inv-loop μ-loop
 only-requires c κs = search needs
@@ -49,7 +49,7 @@ loop-again c =
     let e = c .before .before .before in
     let b = e .before .before in
     let f = filled (b .before .before .args .seats .now) in
-    (search needs, grown f _ (b .loop .inv .1) (c .before .when .ensures ∙ rw (e .entry .ensures, c .before .before .only .ensures)) (c .union .ensures))
+    (search needs, grown f _ (b .loop .inv .1) (c .before .when .ensures ∙ rw (e .roles-at .ensures, c .before .before .only .ensures)) (c .union .ensures))
 
 returns : tie.Need-returns Inv-loop μ-loop
 returns c =
@@ -63,7 +63,7 @@ occupied-spec =
     Inv-loop
     μ-loop
     loop-holds
-    entry-requires
+    roles-at-requires
     only-requires
     when-requires
     union-requires

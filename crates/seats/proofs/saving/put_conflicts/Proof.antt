@@ -1,6 +1,7 @@
 -- `seats::saving::put_conflicts` meets its contract: the rows visited are written, and those from `lower` on are left.
 -- Assumes nothing.
 use borrow.Author.Needs.{needs}
+use Rattle.graph.specs.Reading.{sets-in}
 use Prim.Native.Nat.{_-_, _≤_}
 use Rattle.seats.specs.Images.{entry-bytes}
 use Rattle.seats.specs.ImageWork.{pair-entries}
@@ -10,13 +11,13 @@ use Rattle.seats.proofs.saving.put_conflicts.Statement.{statement}
 use Rattle.seats.proofs.saving.put_conflicts.Tie as tie
 
 abbrev Inv-loop : tie.InvT-loop
-Inv-loop buffer₀ at conflicts place₀ lower₀ buffer place lower = (lower ≤ 64) × Unwritten buffer₀ at (entry-bytes 1 (pair-entries conflicts)) buffer place (entry-bytes 1 (rows-from conflicts lower))
+Inv-loop buffer₀ at conflicts place₀ lower₀ buffer place lower = (lower ≤ 64) × Unwritten buffer₀ at (entry-bytes 1 (pair-entries (sets-in conflicts))) buffer place (entry-bytes 1 (rows-from (sets-in conflicts) lower))
 
 abbrev μ-loop : tie.MeasureT-loop
 μ-loop buffer₀ at conflicts place₀ lower₀ buffer place lower = 64 - lower
 
 loop-holds : tie.Need-loop-holds Inv-loop μ-loop
-loop-holds c = (search needs, rw (rows-all (c .before .before .args .conflicts .now)) (unwritten-all _ _ _))
+loop-holds c = (search needs, rw (rows-all (sets-in (c .before .before .args .conflicts .now))) (unwritten-all _ _ _))
 
 cast-row : tie.Need-cast-row Inv-loop μ-loop
 cast-row c = search needs
@@ -28,7 +29,7 @@ put-row-requires : tie.Need-put-row-requires Inv-loop μ-loop
 put-row-requires c κs =
     let b = c .before .before in
     let s = b .before .before .before .before in
-    row-room (s .args .conflicts .now) (b .before .loop .lower) (b .loop-test .taken) (c .before .row .ensures) (b .before .loop .inv .1) (s .pre)
+    row-room (sets-in (s .args .conflicts .now)) (b .before .loop .lower) (b .loop-test .taken) (c .before .row .ensures) (b .before .loop .inv .1) (s .pre)
 
 add-lower : tie.Need-add-lower Inv-loop μ-loop
 add-lower c = search needs
@@ -41,14 +42,14 @@ loop-again c =
     let p = c .before .before in
     let b = p .before .before .before in (
       search needs,
-      row-written (b .before .before .before .before .args .conflicts .now) (b .before .loop .lower) (b .loop-test .taken) (p .before .before .row .ensures) (b .before .loop .inv .1) (p .put-row .ensures),
+      row-written (sets-in (b .before .before .before .before .args .conflicts .now)) (b .before .loop .lower) (b .loop-test .taken) (p .before .before .row .ensures) (b .before .loop .inv .1) (p .put-row .ensures),
     )
 
 same-length : tie.Need-same-length Inv-loop μ-loop
 same-length c = unwritten-length (c .before .loop .inv .1)
 
 returns : tie.Need-returns Inv-loop μ-loop
-returns c = rows-written (c .before .before .before .before .args .conflicts .now) (c .before .loop .lower) (c .loop-test .left) (c .before .loop .inv .1)
+returns c = rows-written (sets-in (c .before .before .before .before .args .conflicts .now)) (c .before .loop .lower) (c .loop-test .left) (c .before .loop .inv .1)
 
 pub put-conflicts-spec : {M : Type 1} → statement M
 put-conflicts-spec =

@@ -33,11 +33,11 @@ cast-i c = search needs
 cast-put-entry : tie.Need-cast-put-entry Inv-loop μ-loop
 cast-put-entry c = let l = key-lt (c .before) in search needs
 
-entry-requires : tie.Need-entry-requires Inv-loop μ-loop
-entry-requires c κs = search needs
+roles-at-requires : tie.Need-roles-at-requires Inv-loop μ-loop
+roles-at-requires c κs = search needs
 
-put-entry-requires : tie.Need-put-entry-requires Inv-loop μ-loop
-put-entry-requires c κs =
+put-roles-at-requires : tie.Need-put-roles-at-requires Inv-loop μ-loop
+put-roles-at-requires c κs =
     let b = c .before .before in
     let s = b .before .before .before .before .before in
     member-room 64 8 (valued (at (s .args .table .now))) (b .before .before .loop .inv .0) (b .before .loop-test .taken) (b .lowest-member .ensures) (b .before .before .loop .inv .1) (s .pre)
@@ -56,7 +56,7 @@ loop-again c =
     let b = e .before .before in (
       rw (c .without-lowest .ensures) (next-lt 64 _ (b .before .before .loop .inv .0)),
       member-written 64 8 (valued (at (b .before .before .before .before .before .args .table .now))) (b .before .before .loop .inv .0) (b .before .loop-test .taken) (b .lowest-member .ensures) (b .before .before .loop .inv .1)
-          (c .without-lowest .ensures) (rw (e .entry .ensures) at (c .before .before .before .put-entry .ensures)),
+          (c .without-lowest .ensures) (rw (e .roles-at .ensures) at (c .before .before .before .put-entry .ensures)),
     )
 
 same-length : tie.Need-same-length Inv-loop μ-loop
@@ -75,8 +75,8 @@ put-table-spec =
     lowest-member-requires
     cast-i
     cast-put-entry
-    entry-requires
-    put-entry-requires
+    roles-at-requires
+    put-roles-at-requires
     without-lowest-requires
     loop-less
     loop-again

@@ -1,6 +1,7 @@
 -- `seats::saving::row` meets its contract: taking out a number and those below it leaves the members above it.
 -- Assumes nothing.
 use borrow.Author.Needs.{needs}
+use Rattle.graph.specs.Reading.{sets-in}
 use mathlib.Core.Path.{_≡_, refl, sym, ap, ap₂, _∙_}
 use mathlib.Core.Bool.{Bool, not, _&&_, _||_, and-comm}
 use mathlib.Core.List.{List}
@@ -70,18 +71,19 @@ sub-union c = let e = c .only .ensures ∙ alone _ in let p = pow-pos (c .before
 union-requires : tie.Need-union-requires
 union-requires c κs = search needs
 
-entry-requires : tie.Need-entry-requires
-entry-requires c κs = search needs
+roles-at-requires : tie.Need-roles-at-requires
+roles-at-requires c κs = search needs
 
 difference-requires : tie.Need-difference-requires
 difference-requires c κs = search needs
 
 returns : tie.Need-returns
+unfolding sets-in
 returns c =
     let b = c .before .before in
     let s = b .before .before .before in
     let e = b .before .only .ensures ∙ alone _ in
-    higher (s .args .conflicts .now) (s .args .lower) _ (search needs) (c .difference .ensures ∙ rw (c .before .entry .ensures, b .union .ensures, e))
+    higher (s .args .conflicts .now) (s .args .lower) _ (search needs) (c .difference .ensures ∙ rw (c .before .roles-at .ensures, b .union .ensures, e))
 
 pub row-spec : {M : Type 1} → statement M
 row-spec =
@@ -90,6 +92,6 @@ row-spec =
     only-requires
     sub-union
     union-requires
-    entry-requires
+    roles-at-requires
     difference-requires
     returns)

@@ -2,6 +2,7 @@
 -- Assumes nothing.
 use native.Mathlib.Omega.{arith}
 use borrow.Author.Needs.{needs}
+use Rattle.graph.specs.Reading.{sets-in}
 use mathlib.Core.List.{List, _++_}
 use Prim.Native.Nat.{ℕ, _+_, _<_, _≤_}
 use Rattle.graph.specs.Tables.{at}
@@ -30,9 +31,9 @@ entered c = c .before .before .before .before .before .before .before .before .b
 abbrev counts : tie.After-distance → Counts
 counts c = record { roles = c .before .before .before .size .result; seats = c .before .before .size2 .result; conflicts = c .before .count-conflicts .result }
 
-counted : (c : tie.After-distance) → Counted (state (entered c)) (c .before .before .before .before .before .difference .result) (c .before .before .before .before .occupied .result) (counts c) (c .distance .result)
+counted : (c : tie.After-distance) → Counted (state (entered c)) (c .before .before .before .before .before .ordinary-roles .result) (c .before .before .before .before .occupied .result) (counts c) (c .distance .result)
 counted c = record {
-  ordinary-are = c .before .before .before .before .before .difference .ensures;
+  ordinary-are = c .before .before .before .before .before .ordinary-roles .ensures;
   occupied-are = c .before .before .before .before .occupied .ensures;
   roles-are = c .before .before .before .size .ensures;
   seats-are = c .before .before .size2 .ensures;
@@ -46,13 +47,13 @@ module _ (c : tie.Else1) where
   start = entered (c .before)
 
   abbrev top-part : List ℕ
-  top-part = bytes-of 8 (at (start .args .sets .now) 1)
+  top-part = bytes-of 8 (at (sets-in (start .args .sets .now)) 1)
 
   abbrev roles-part : List ℕ
-  roles-part = entry-bytes 8 (table-entries (c .before .before .before .before .before .before .difference .result) (start .args .sets .now))
+  roles-part = entry-bytes 8 (table-entries (c .before .before .before .before .before .before .ordinary-roles .result) (sets-in (start .args .sets .now)))
 
   abbrev conflicts-part : List ℕ
-  conflicts-part = entry-bytes 1 (pair-entries (start .args .conflicts .now))
+  conflicts-part = entry-bytes 1 (pair-entries (sets-in (start .args .conflicts .now)))
 
   abbrev seats-part : List ℕ
   seats-part = entry-bytes 8 (table-entries (c .before .before .before .before .before .occupied .result) (start .args .seats .now))
@@ -84,9 +85,11 @@ abbrev seats-from : tie.After-put-table2 → tie.Else1
 seats-from c = conflicts-from (c .before .before .before .before)
 
 top-written : (c : tie.After-put-number) → let o = top-from c in Left o (c .put-number .last .0) (c .put-number .result) (roles-part o ++ (conflicts-part o ++ (seats-part o ++ trailer-part o)))
-top-written c = unwritten-next (top-part (top-from c)) _ (all-left (top-from c)) (rw (c .before .entry .ensures) at (c .put-number .ensures))
+unfolding sets-in
+top-written c = unwritten-next (top-part (top-from c)) _ (all-left (top-from c)) (rw (c .before .roles-at .ensures) at (c .put-number .ensures))
 
 roles-written : (c : tie.After-put-table) → let o = roles-from c in Left o (c .put-table .last .0) (c .put-table .result) (conflicts-part o ++ (seats-part o ++ trailer-part o))
+unfolding sets-in
 roles-written c = unwritten-next (roles-part (roles-from c)) _ (top-written (c .before .before .before .before)) (c .put-table .ensures)
 
 conflicts-written : (c : tie.After-put-conflicts) → let o = conflicts-from c in Left o (c .put-conflicts .last .0) (c .put-conflicts .result) (seats-part o ++ trailer-part o)
@@ -95,8 +98,8 @@ conflicts-written c = unwritten-next (conflicts-part (conflicts-from c)) _ (role
 seats-written : (c : tie.After-put-table2) → Left (seats-from c) (c .put-table2 .last .0) (c .put-table2 .result) (trailer-part (seats-from c))
 seats-written c = unwritten-next (seats-part (seats-from c)) _ (conflicts-written (c .before .before .before .before)) (c .put-table2 .ensures)
 
-difference-requires : tie.Need-difference-requires
-difference-requires c κs = search needs
+ordinary-roles-requires : tie.Need-ordinary-roles-requires
+ordinary-roles-requires c κs = search needs
 
 occupied-requires : tie.Need-occupied-requires
 occupied-requires c κs = search needs
@@ -105,7 +108,7 @@ size-requires : tie.Need-size-requires
 size-requires c κs = search needs
 
 cast-r : tie.Need-cast-r
-cast-r c = let a = size-bound 64 (c .before .before .difference .result) in let e = c .size .ensures in omega arith
+cast-r c = let a = size-bound 64 (c .before .before .ordinary-roles .result) in let e = c .size .ensures in omega arith
 
 size-requires-2 : tie.Need-size-requires-2
 size-requires-2 c κs = search needs
@@ -118,7 +121,7 @@ count-conflicts-requires c κs = search needs
 
 few : (c : tie.After-count-conflicts) → (c .before .before .size .result < 256) × (c .before .size2 .result < 256) × (c .count-conflicts .result < 65536)
 few c =
-    let a = size-bound 64 (c .before .before .before .before .difference .result) in
+    let a = size-bound 64 (c .before .before .before .before .ordinary-roles .result) in
     let b = size-bound 64 (c .before .before .before .occupied .result) in
     let e = c .before .before .size .ensures in
     let f = c .before .size2 .ensures in
@@ -134,13 +137,13 @@ too-short-requires c κs = search needs
 returns : tie.Need-returns
 returns c = rw (c .too-short .ensures) (saves-nothing (counted (c .before .before)) _ (c .before .if1 .taken))
 
-entry-requires : tie.Need-entry-requires
-entry-requires c κs = search needs
+roles-at-requires : tie.Need-roles-at-requires
+roles-at-requires c κs = search needs
 
 put-number-requires : tie.Need-put-number-requires
 put-number-requires c κs =
     let o = c .before .before in
-    let l = length-bytes-of 8 (at (start o .args .sets .now) 1) in
+    let l = length-bytes-of 8 (at (sets-in (start o .args .sets .now)) 1) in
     let h = piece-room (top-part o) _ (all-left o) (fits o) in
     omega arith
 
@@ -179,7 +182,7 @@ pub save-spec : {M : Type 1} → statement M
 save-spec =
     tie.close
     (tie.spec
-    difference-requires
+    ordinary-roles-requires
     occupied-requires
     size-requires
     cast-r
@@ -189,7 +192,7 @@ save-spec =
     distance-requires
     too-short-requires
     returns
-    entry-requires
+    roles-at-requires
     put-number-requires
     put-table-requires
     put-conflicts-requires

@@ -38,7 +38,7 @@ returns-3 : tie.Need-returns-3
 unfolding perform checks verdict settle reply may-use read-answer
 returns-3 c R C =
     ap answered (c .member .ensures ∙ ap (member _) (c .before .held-by .ensures R C))
-    ∙ sym (steps-ask _ _ _ (search needs) ∙ rw (lt-leb 64 _ (c .before .before .before .before .before .if1 .left), lt-leb 64 _ (c .before .before .before .if2 .left)))
+    ∙ sym (steps-ask _ _ _ (search needs) ∙ rw (lt-leb 64 _ (c .before .before .before .before .if1 .left), lt-leb 64 _ (c .before .before .if2 .left)))
 
 pub ask-spec : {M : Type 1} → statement M
 ask-spec =
