@@ -2,10 +2,11 @@
 ghost use mathlib.Core.Path.{_≡_};
 ghost use Prim.Native.Nat.{_≤_};
 ghost use lib.ListN.{length};
+ghost use Rattle.graph.specs.Refusing.{verdict};
 ghost use Rattle.graph.specs.Reading.{read-change};
-ghost use Rattle.seats.specs.Calls.{change, perform};
-ghost use Rattle.seats.specs.Reading.{read-request, read-decision, read-changed};
-ghost use Rattle.boundary.specs.Block.{block-length, state-in};
+ghost use Rattle.seats.specs.Calls.{change, accepted, checks, after, settle, perform};
+ghost use Rattle.seats.specs.Reading.{state-of, read-answer, read-request, read-decision};
+ghost use Rattle.boundary.specs.Block.{block-length, table-at, state-in};
 ghost use Rattle.boundary.specs.Keeper.{given, fresh-block, call-block};
 use crate::block::WORDS;
 use crate::block::put_state;
@@ -17,14 +18,13 @@ use crate::codes::refusal_code;
 use graph::Change;
 use seats::Answer;
 use seats::Call;
-use seats::Changed;
 use seats::Decision;
 use seats::Decoded;
 use seats::Request;
 use seats::State;
+use seats::Taken;
 use seats::deciding;
 use seats::records;
-use seats::stepping;
 
 // Makes the block's state a fresh one.
 #[no_mangle]
@@ -74,15 +74,15 @@ fn take_request(block: &mut [u64], request: Request) -> u32
     code(answer)
 }
 
-// What a change comes to, decided on parts of the block.
-fn changed(block: &[u64], edit: Change) -> Changed
+// What a change comes to, decided on parts of the block; where it is accepted, the sets after it go into `next`.
+fn changed(block: &[u64], edit: Change, next: &mut [u64; 64]) -> Taken
     requires { ⌜ block-length ≤ length (now block) ⌝ }
-    ensures { λ r. let s = state-in (now (block .entry)) in ⌜ read-changed s r ≡ perform s (change (read-change edit)) ⌝ }
+    ensures { λ r. let W = now (block .entry) in let C = table-at W 65 in let A = table-at W 129 in let s = state-in W in let c = change (read-change edit) in let h = after s c in ⌜ (read-answer (r .answer), state-of (r .roles) (now (next .exit)) C A) ≡ settle (verdict (checks s c h)) accepted (state-of (s .graph .roles) (now (next .entry)) C A) h ⌝ }
 {
     let sets = &block[1..65];
     let conflicts = &block[65..129];
     let seats = &block[129..193];
-    stepping::decide_change(block[0], sets, conflicts, seats, edit)
+    deciding::decide_change(block[0], sets, conflicts, seats, edit, next)
 }
 
 // Kinds 1 to 7, which change the roles and the sets alone; the block is written where the change is accepted.
@@ -90,13 +90,13 @@ fn take_change(block: &mut [u64], edit: Change) -> u32
     requires { ⌜ block-length ≤ length (now block) ⌝ }
     ensures { λ r. ⌜ (r, now (block .exit)) ≡ given (now (block .entry)) (perform (state-in (now (block .entry))) (change (read-change edit))) ⌝ }
 {
-    let next = changed(block, edit);
-    let answer = next.answer;
+    let mut next = [0u64; 64];
+    let taken = changed(block, edit, &mut next);
+    let answer = taken.answer;
     match answer {
         Answer::Accepted => {
-            let sets = next.sets;
-            block[0] = next.roles;
-            put_table(block, 1, &sets);
+            block[0] = taken.roles;
+            put_table(block, 1, &next);
             code(answer)
         }
         _ => code(answer),

@@ -16,12 +16,11 @@ use Rattle.graph.specs.declared.Verdict.the-variants.{the-data, Passed, Refused
 use Rattle.graph.proofs.Refusals.{parts, passed-passes, verdict-passes}
 use Rattle.graph.proofs.Judging.{refused-first, passed-first}
 use Rattle.seats.specs.Seats.{State}
-use Rattle.seats.specs.Calls.{change, Answer, accepted, refused, seat-checks, checks, after, reply, settle, perform}
-use Rattle.seats.specs.Reading.{read-answer, outcome}
+use Rattle.seats.specs.Calls.{change, Answer, accepted, refused, seat-checks, checks, after, settle}
+use Rattle.seats.specs.Reading.{read-answer}
 use Rattle.seats.specs.Working.{removal-checks, after-checks}
 use Rattle.seats.specs.declared.Answer.the-variants as answers
 use Rattle.seats.proofs.Answer as answer-enum
-use Rattle.seats.proofs.Requests.{refused-by}
 
 -- Checks in the middle that refuse nothing do not count.
 skipped : (l m n : List Check) → verdict m ≡ passed → verdict (l ++ n) ≡ verdict ((l ++ m) ++ n)
@@ -74,38 +73,40 @@ module _ (s : State) (c : Change) where
       sym (ap verdict (ap (λ (l : List Check). (before-checks s c ++ seat-checks s c) ++ l) (append-assoc (still-below (next .graph) c) (closed-checks (next .graph)) _)
       ∙ append-assoc (before-checks s c) (seat-checks s c) _ ∙ append-assoc (input-checks c) (state-checks (s .graph) c) _))
 
-  -- A verdict that refuses leaves the state, and one that passes has the next.
-  pub settled-refused : (l : List Check) {n p : ℕ} → verdict l ≡ refusing.refused n p → settle (verdict l) accepted s next ≡ (refused n p, s)
-  unfolding settle
-  settled-refused l e = ap (λ (v : Verdict). settle v accepted s next) e
-
-  pub settled-passed : (l : List Check) → verdict l ≡ passed → settle (verdict l) accepted s next ≡ (accepted, next)
-  unfolding settle
-  settled-passed l e = ap (λ (v : Verdict). settle v accepted s next) e
-
   module _ {v : the-data} (e : read-verdict v ≡ verdict (removal-checks s c)) where
-    -- Where the checks of a removal refuse, the call is refused.
-    pub removal-refused : {r : Refusal} → v ≡ Refused r → perform s (change c) ≡ (refused (r .number) (r .place), s)
+    -- What the checks of a removal refuse, all checks do.
+    pub removal-refused : {r : Refusal} → v ≡ Refused r → read-verdict v ≡ verdict (checks s (change c) next)
     unfolding read-verdict
-    removal-refused d =
-        refused-by s (change c)
-        (in-parts ∙ sym (refused-first (before-checks s c ++ seat-checks s c) (after-checks next c) (e ∙ removal-stops s c (sym e ∙ ap read-verdict d)) d) ∙ ap read-verdict d)
+    removal-refused d = refused-first (before-checks s c ++ seat-checks s c) (after-checks next c) (e ∙ removal-stops s c (sym e ∙ ap read-verdict d)) d ∙ sym in-parts
 
-    -- Where they pass, the call is settled by the checks without that of the seats.
-    pub settled-without : v ≡ Passed → settle (verdict (before-checks s c ++ after-checks next c)) accepted s next ≡ perform s (change c)
-    unfolding read-verdict perform reply
-    settled-without d =
-        ap (λ (w : Verdict). settle w accepted s next)
-        (skipped (before-checks s c) (seat-checks s c) (after-checks next c) (removal-goes s c (sym e ∙ ap read-verdict d)) ∙ sym in-parts)
+    -- Where they pass, all checks are those without that of the seats.
+    pub checks-without : v ≡ Passed → verdict (before-checks s c ++ after-checks next c) ≡ verdict (checks s (change c) next)
+    unfolding read-verdict
+    checks-without d = skipped (before-checks s c) (seat-checks s c) (after-checks next c) (removal-goes s c (sym e ∙ ap read-verdict d)) ∙ sym in-parts
 
--- An accepted change has its own state.
-pub accepted-outcome : {a : Answer} (s h : State) → a ≡ accepted → outcome a s h ≡ (a, h)
-unfolding outcome
-accepted-outcome s h e = rw e
+-- A verdict that refuses leaves the state m, and one that passes has h.
+module _ {v : the-data} {w : Verdict} (m h : State) (e : read-verdict v ≡ w) where
+  pub settled-refused : {r : Refusal} → v ≡ Refused r → (refused (r .number) (r .place), m) ≡ settle w accepted m h
+  unfolding settle read-verdict
+  settled-refused d = ap (λ (x : Verdict). settle x accepted m h) (sym (ap read-verdict d) ∙ e)
 
--- Any other answer leaves the state.
-pub other-outcome : (s h : State) (a : answers.the-data) → OneOf (1 ∷ 2 ∷ []) (tagOf answer-enum.the-type a) → (read-answer a, s) ≡ outcome (read-answer a) s h
-unfolding read-answer outcome
-other-outcome s h answers.Accepted o = absurd (miss (1 ∷ 2 ∷ []) 0 tt o)
-other-outcome s h (answers.Answered b) o = refl
-other-outcome s h (answers.Refused r) o = refl
+  pub settled-passed : v ≡ Passed → {k : State} → k ≡ h → (accepted, k) ≡ settle w accepted m h
+  unfolding settle read-verdict
+  settled-passed d p = ap (λ (k : State). (accepted, k)) p ∙ ap (λ (x : Verdict). settle x accepted m h) (sym (ap read-verdict d) ∙ e)
+
+-- An accepted change has its own state, whatever a refusal would leave.
+pub accepted-taken : (v : Verdict) (m h s : State) {a : answers.the-data} {t : State} → (read-answer a, t) ≡ settle v accepted m h → a ≡ answers.Accepted → (read-answer a, t) ≡ settle v accepted s h
+unfolding settle read-answer
+accepted-taken passed m h s e d = e
+accepted-taken (refusing.refused n p) m h s {a} e d =
+    let x : accepted ≡ refused n p = sym (ap read-answer d) ∙ ap (λ (z : Answer × State). z .0) e in
+    let z : _≡_ {A = ℕ} 0 1 = cc in
+    absurd (omega arith)
+
+-- Any other answer is a refusal, which leaves the state.
+pub other-taken : (v : Verdict) (m h s : State) (a : answers.the-data) {t : State} → (read-answer a, t) ≡ settle v accepted m h → OneOf (1 ∷ 2 ∷ []) (tagOf answer-enum.the-type a) → (read-answer a, s) ≡ settle v accepted s h
+unfolding settle read-answer
+other-taken passed m h s answers.Accepted e o = absurd (miss (1 ∷ 2 ∷ []) 0 tt o)
+other-taken passed m h s (answers.Answered b) e o = let x = ap (λ (z : Answer × State). z .0) e in let z : _≡_ {A = ℕ} 0 1 = cc in absurd (omega arith)
+other-taken passed m h s (answers.Refused r) e o = let x = ap (λ (z : Answer × State). z .0) e in let z : _≡_ {A = ℕ} 0 1 = cc in absurd (omega arith)
+other-taken (refusing.refused n p) m h s a e o = ap (λ (z : Answer × State). (z .0, s)) e

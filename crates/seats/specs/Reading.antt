@@ -17,7 +17,6 @@ use Rattle.seats.specs.declared.Decoded.the-variants as decodings
 use Rattle.seats.specs.declared.Answer as answer-enum
 use Rattle.seats.specs.declared.Answer.the-variants as answers
 use Rattle.seats.specs.declared.Decision as decision-struct
-use Rattle.seats.specs.declared.Changed as changed-struct
 use Rattle.seats.specs.declared.Fed as fed-struct
 use Rattle.seats.specs.declared.Filled as filled-enum
 use Rattle.seats.specs.declared.Filled.the-variants as fillings
@@ -68,16 +67,6 @@ decided s d =
 -- What a request comes to: its answer, and the state after it.
 abbrev pub read-decision : State → decision-struct.Decision → Answer × State
 read-decision s d = (read-answer (d .answer), decided s d)
-
--- An accepted change has the state h; any other answer leaves s.
-unfoldable pub outcome : Answer → State → State → Answer × State
-outcome accepted s h = (accepted, h)
-outcome (answered b) s h = (answered b, s)
-outcome (refused n p) s h = (refused n p, s)
-
--- What a change comes to: its answer, and the state after it.
-abbrev pub read-changed : State → changed-struct.Changed → Answer × State
-read-changed s r = outcome (read-answer (r .answer)) s (state-of (r .roles) (r .sets) (s .graph .conflicts) (s .seats))
 
 -- What feeding a part of a tape gives, with the buffer that it leaves.
 abbrev pub read-fed : fed-struct.Fed → List ℕ → (Filled × List ℕ) × (ℕ × State)

@@ -1,24 +1,31 @@
-// Kinds 8 to 12 decided on borrowed tables: the answer, and the entry that changes.
+// Calls decided on borrowed tables: of kinds 8 to 12 the answer and the entry that changes, of kinds 1 to 7 the answer, the roles and the sets after it.
 ghost use mathlib.Core.Path.{_≡_};
-ghost use mathlib.Core.List.{[], _∷_};
-ghost use Rattle.graph.specs.Refusing.{verdict, no-role-number, end-role, role-absent};
-ghost use Rattle.graph.specs.Reading.{drawn-from, read-verdict};
+ghost use mathlib.Core.List.{List, [], _∷_, _++_};
+ghost use Prim.Native.Nat.{ℕ};
+ghost use Rattle.graph.specs.Editing.{remove-role};
+ghost use Rattle.graph.specs.Refusing.{verdict, input-checks, state-checks, no-role-number, end-role, role-absent};
+ghost use Rattle.graph.specs.Reading.{drawn-from, read-verdict, read-change};
 ghost use Rattle.seats.specs.Seats.{State};
-ghost use Rattle.seats.specs.Calls.{declare, lift, assign, unassign, refused, no-seat-number, perform};
+ghost use Rattle.seats.specs.Calls.{change, declare, lift, assign, unassign, accepted, no-seat-number, checks, after, settle, perform};
+ghost use Rattle.seats.specs.Working.{removal-checks, after-checks};
 ghost use Rattle.seats.specs.Reading.{state-of, read-answer, read-request, read-decision};
 use crate::Answer;
 use crate::Decision;
 use crate::Request;
 use crate::Seat;
+use crate::Taken;
 use crate::searches;
 use crate::searches::refusal;
 use crate::seating;
+use graph::Change;
 use graph::Entry;
 use graph::Privilege;
 use graph::Role;
 use graph::Verdict;
+use graph::changing;
 use graph::checking;
 use graph::declaring;
+use graph::refusing;
 use graph::refusing::refuse;
 use graph::table::entry;
 
@@ -182,5 +189,112 @@ pub fn decide<'a>(
         Request::Assign(a, b) => decide_assign(roles, sets, conflicts, seats, a, b),
         Request::Unassign(a, b) => decide_unassign(roles, sets, conflicts, seats, a, b),
         Request::Ask(a, b) => unchanged(seating::ask(sets, seats, a, b)),
+    }
+}
+
+// What refuses the removal of a role before closing: 2, 3, 21, and 24 while a seat has it.
+fn judge_held(roles: u64, seats: &[u64], a: Role) -> Verdict
+    ensures { λ v. ⌜ ((S C : List ℕ) (b : ℕ) → read-verdict v ≡ verdict (removal-checks (state-of roles S C (now (seats .entry))) (remove-role (a .0) b))) ⌝ }
+{
+    let named = checking::judge_role(roles, a);
+    let Verdict::Passed = named else {
+        return named;
+    };
+    let place = searches::holder(seats, a);
+    if place < 64 {
+        return refuse(24, place);
+    }
+    Verdict::Passed
+}
+
+// What refuses kind 3 before closing; the other kinds pass, and are judged where they are tried.
+fn judge_removal(roles: u64, seats: &[u64], edit: Change) -> Verdict
+    ensures { λ v. ⌜ ((S C : List ℕ) → read-verdict v ≡ verdict (removal-checks (state-of roles S C (now (seats .entry))) (read-change edit))) ⌝ }
+{
+    match edit {
+        Change::RemoveRole(a, _) => judge_held(roles, seats, a),
+        _ => Verdict::Passed,
+    }
+}
+
+// The refusals of a change that come after closing, 26 to 30, by the graph that it would leave.
+fn judge_after<'a>(
+    roles: u64,
+    sets: &'a [u64; 64],
+    conflicts: &'a [u64],
+    seats: &'a [u64],
+    edit: Change,
+) -> Verdict
+    ensures { λ v. let h = state-of roles (now (sets .entry)) (now (conflicts .entry)) (now (seats .entry)) in ⌜ read-verdict v ≡ verdict (after-checks h (read-change edit)) ⌝ }
+{
+    let verdict = refusing::judge_closed(roles, sets, conflicts, edit);
+    match verdict {
+        Verdict::Refused(_) => verdict,
+        Verdict::Passed => {
+            let place = searches::pair_seat(sets, conflicts, seats);
+            if place < 64 {
+                return refuse(30, place);
+            }
+            verdict
+        }
+    }
+}
+
+// A change of the graph, but for refusal 24: judged, carried out, and judged again.
+fn changed<'a>(
+    roles: u64,
+    sets: &'a [u64],
+    conflicts: &'a [u64],
+    seats: &'a [u64],
+    edit: Change,
+    next: &mut [u64; 64],
+) -> Taken
+    ensures { λ r. let C = now (conflicts .entry) in let W = now (seats .entry) in let s = state-of roles (now (sets .entry)) C W in let c = read-change edit in let h = after s (change c) in ⌜ (read-answer (r .answer), state-of (r .roles) (now (next .exit)) C W) ≡ settle (verdict ((input-checks c ++ state-checks (s .graph) c) ++ after-checks h c)) accepted (state-of roles (now (next .entry)) C W) h ⌝ }
+{
+    let mut closed = [0u64; 64];
+    let tried = changing::attempt(roles, sets, edit, &mut closed);
+    let before = tried.verdict;
+    match before {
+        Verdict::Refused(found) => Taken {
+            answer: Answer::Refused(found),
+            roles,
+        },
+        Verdict::Passed => {
+            let after = judge_after(tried.roles, &closed, conflicts, seats, edit);
+            match after {
+                Verdict::Refused(found) => Taken {
+                    answer: Answer::Refused(found),
+                    roles,
+                },
+                Verdict::Passed => {
+                    *next = closed;
+                    Taken {
+                        answer: Answer::Accepted,
+                        roles: tried.roles,
+                    }
+                }
+            }
+        }
+    }
+}
+
+// What a change comes to: where it is accepted, the sets after it go into `next`; a refusal leaves the roles and `next`.
+pub fn decide_change<'a>(
+    roles: u64,
+    sets: &'a [u64],
+    conflicts: &'a [u64],
+    seats: &'a [u64],
+    edit: Change,
+    next: &mut [u64; 64],
+) -> Taken
+    ensures { λ r. let C = now (conflicts .entry) in let W = now (seats .entry) in let s = state-of roles (now (sets .entry)) C W in let c = change (read-change edit) in let h = after s c in ⌜ (read-answer (r .answer), state-of (r .roles) (now (next .exit)) C W) ≡ settle (verdict (checks s c h)) accepted (state-of roles (now (next .entry)) C W) h ⌝ }
+{
+    let verdict = judge_removal(roles, seats, edit);
+    match verdict {
+        Verdict::Refused(found) => Taken {
+            answer: Answer::Refused(found),
+            roles,
+        },
+        Verdict::Passed => changed(roles, sets, conflicts, seats, edit, next),
     }
 }

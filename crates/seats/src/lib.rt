@@ -71,14 +71,7 @@ pub struct Decision {
     pub seat: Entry,
 }
 
-// What a change comes to: its answer, and where it is accepted the roles and sets after it.
-pub struct Changed {
-    pub answer: Answer,
-    pub roles: u64,
-    pub sets: [u64; 64],
-}
-
-// What a record comes to where the tables are lent: its answer, and the roles after it.
+// What a change or a record comes to where the tables are lent: its answer, and the roles after it.
 pub struct Taken {
     pub answer: Answer,
     pub roles: u64,

@@ -1,19 +1,12 @@
 // The step: what a record of any bytes makes of a state. Tables are decided on as they are lent, and what changes is stored.
 ghost use mathlib.Core.Path.{_≡_};
-ghost use mathlib.Core.List.{List, _++_};
-ghost use Prim.Native.Nat.{ℕ};
-ghost use Rattle.graph.specs.Editing.{remove-role};
-ghost use Rattle.graph.specs.Refusing.{verdict, input-checks, state-checks};
-ghost use Rattle.graph.specs.Reading.{read-verdict, read-change};
-ghost use Rattle.seats.specs.Seats as spec;
-ghost use Rattle.seats.specs.Calls.{change, accepted, refused, perform, settle, after};
+ghost use Rattle.graph.specs.Reading.{read-change};
+ghost use Rattle.seats.specs.Calls.{change, perform};
 ghost use Rattle.seats.specs.Records.{step};
 ghost use Rattle.seats.specs.Promises.{StepPromise};
-ghost use Rattle.seats.specs.Working.{removal-checks, after-checks};
-ghost use Rattle.seats.specs.Reading.{state-of, read-answer, read-request, read-changed};
+ghost use Rattle.seats.specs.Reading.{state-of, read-answer, read-request};
 use crate::Answer;
 use crate::Call;
-use crate::Changed;
 use crate::Decoded;
 use crate::Request;
 use crate::State;
@@ -21,122 +14,9 @@ use crate::Stepped;
 use crate::Taken;
 use crate::deciding;
 use crate::records;
-use crate::searches;
 use crate::searches::refusal;
 use graph::Change;
-use graph::Refusal;
-use graph::Role;
-use graph::Verdict;
-use graph::checking;
-use graph::editing;
-use graph::refusing;
-use graph::refusing::refuse;
 use graph::table::store;
-
-// What refuses the removal of a role before closing: 2, 3, 21, and 24 while a seat has it.
-fn judge_held(roles: u64, seats: &[u64], a: Role) -> Verdict
-    ensures { λ v. ⌜ ((S C : List ℕ) (b : ℕ) → read-verdict v ≡ verdict (removal-checks (state-of roles S C (now (seats .entry))) (remove-role (a .0) b))) ⌝ }
-{
-    let named = checking::judge_role(roles, a);
-    let Verdict::Passed = named else {
-        return named;
-    };
-    let place = searches::holder(seats, a);
-    if place < 64 {
-        return refuse(24, place);
-    }
-    Verdict::Passed
-}
-
-// What refuses kind 3 before closing; the other kinds pass, and are judged where they are tried.
-fn judge_removal(roles: u64, seats: &[u64], edit: Change) -> Verdict
-    ensures { λ v. ⌜ ((S C : List ℕ) → read-verdict v ≡ verdict (removal-checks (state-of roles S C (now (seats .entry))) (read-change edit))) ⌝ }
-{
-    match edit {
-        Change::RemoveRole(a, _) => judge_held(roles, seats, a),
-        _ => Verdict::Passed,
-    }
-}
-
-// The refusals of a change that come after closing, 26 to 30, by the graph that it would leave.
-fn judge_after<'a>(
-    roles: u64,
-    sets: &'a [u64; 64],
-    conflicts: &'a [u64],
-    seats: &'a [u64],
-    edit: Change,
-) -> Verdict
-    ensures { λ v. let h = state-of roles (now (sets .entry)) (now (conflicts .entry)) (now (seats .entry)) in ⌜ read-verdict v ≡ verdict (after-checks h (read-change edit)) ⌝ }
-{
-    let verdict = refusing::judge_closed(roles, sets, conflicts, edit);
-    match verdict {
-        Verdict::Refused(_) => verdict,
-        Verdict::Passed => {
-            let place = searches::pair_seat(sets, conflicts, seats);
-            if place < 64 {
-                return refuse(30, place);
-            }
-            verdict
-        }
-    }
-}
-
-// A refused change, which has no roles and sets.
-fn refused(found: Refusal) -> Changed
-    ensures { λ r. ⌜ ((s : spec.State) → read-changed s r ≡ (refused (found .number) (found .place), s)) ⌝ }
-{
-    Changed {
-        answer: Answer::Refused(found),
-        roles: 0,
-        sets: [0u64; 64],
-    }
-}
-
-// A change of the graph, but for refusal 24: judged, carried out, and judged again.
-fn changed<'a>(
-    roles: u64,
-    sets: &'a [u64],
-    conflicts: &'a [u64],
-    seats: &'a [u64],
-    edit: Change,
-) -> Changed
-    ensures { λ r. let s = state-of roles (now (sets .entry)) (now (conflicts .entry)) (now (seats .entry)) in let c = read-change edit in ⌜ read-changed s r ≡ settle (verdict ((input-checks c ++ state-checks (s .graph) c) ++ after-checks (after s (change c)) c)) accepted s (after s (change c)) ⌝ }
-{
-    let tried = editing::attempt(roles, sets, edit);
-    let next = tried.sets;
-    let before = tried.verdict;
-    match before {
-        Verdict::Refused(found) => refused(found),
-        Verdict::Passed => {
-            let after = judge_after(tried.roles, &next, conflicts, seats, edit);
-            match after {
-                Verdict::Refused(found) => refused(found),
-                Verdict::Passed => Changed {
-                    answer: Answer::Accepted,
-                    roles: tried.roles,
-                    sets: next,
-                },
-            }
-        }
-    }
-}
-
-// What a change comes to, decided on borrowed tables: the answer, and where it is accepted the roles and sets after it.
-pub fn decide_change<'a>(
-    roles: u64,
-    sets: &'a [u64],
-    conflicts: &'a [u64],
-    seats: &'a [u64],
-    edit: Change,
-) -> Changed
-    ensures { λ r. let s = state-of roles (now (sets .entry)) (now (conflicts .entry)) (now (seats .entry)) in ⌜ read-changed s r ≡ perform s (change (read-change edit)) ⌝ }
-{
-    let verdict = judge_removal(roles, seats, edit);
-    match verdict {
-        Verdict::Refused(found) => refused(found),
-        Verdict::Passed => changed(roles, sets, conflicts, seats, edit),
-    }
-}
 
 // A change of the graph on lent sets, which are written where it is accepted.
 fn take_change<'a>(
@@ -148,15 +28,15 @@ fn take_change<'a>(
 ) -> Taken
     ensures { λ r. let s = state-of roles (now (sets .entry)) (now (conflicts .entry)) (now (seats .entry)) in ⌜ (read-answer (r .answer), state-of (r .roles) (now (sets .exit)) (now (conflicts .entry)) (now (seats .entry))) ≡ perform s (change (read-change edit)) ⌝ }
 {
-    let next = decide_change(roles, sets, conflicts, seats, edit);
-    let answer = next.answer;
+    let mut next = [0u64; 64];
+    let decided = deciding::decide_change(roles, sets, conflicts, seats, edit, &mut next);
+    let answer = decided.answer;
     match answer {
         Answer::Accepted => {
-            let after = next.sets;
-            *sets = after;
+            *sets = next;
             Taken {
                 answer,
-                roles: next.roles,
+                roles: decided.roles,
             }
         }
         _ => Taken { answer, roles },

@@ -1,11 +1,12 @@
 -- `boundary::calls::take_change` meets its contract: an accepted change leaves conflicts and seats, so that roles and sets are all there is to write, and any other answer leaves the block.
 -- Assumes nothing.
-use mathlib.Core.Path.{refl, sym, ap, _∙_}
+use mathlib.Core.Path.{refl, sym, _∙_}
 use native.Mathlib.Omega.{arith}
 use borrow.Author.Needs.{needs}
 use lib.ListN.{length-set}
+use Rattle.seats.specs.Calls.{reply, perform}
 use Rattle.seats.specs.Reading.{state-of, read-answer}
-use Rattle.seats.proofs.Changing.{accepted-outcome, other-outcome}
+use Rattle.seats.proofs.Changing.{accepted-taken, other-taken}
 use Rattle.boundary.specs.Block.{table-at, state-in}
 use Rattle.boundary.proofs.Laid.{wrote-length, graph-put, holds-own}
 use Rattle.boundary.proofs.Taken.{gives}
@@ -32,32 +33,33 @@ code-requires-2 c κs = search needs
 
 same-length : tie.Need-same-length
 same-length c =
-    let d = c .before .before .before .before .before .before .before .before .before in
-    let s = d .before .before .before in
+    let d = c .before .before .before .before .before .before .before .before in
+    let s = d .before .before .before .before in
     wrote-length _ 1 (simp length-set (omega (arith, s .pre))) (c .before .before .before .put-table .ensures) ∙ length-set (s .args .block .now) 0 (d .changed .result .roles)
 
 returns : tie.Need-returns
-unfolding read-answer
+unfolding perform reply
 returns c =
-    let d = c .before .before .before .before .before .before .before .before .before in
-    let s = d .before .before .before in
+    let d = c .before .before .before .before .before .before .before .before in
+    let s = d .before .before .before .before in
     let W = s .args .block .now in
     let r = d .changed .result in
-    let h = state-of (r .roles) (r .sets) (table-at W 65) (table-at W 129) in
+    let h = state-of (r .roles) (d .changed .last .1 .1 .0) (table-at W 65) (table-at W 129) in
     gives W (read-answer (r .answer)) h (c .code .ensures) (graph-put h W (omega (arith, s .pre)) refl refl (c .before .before .before .put-table .ensures))
-    (sym (accepted-outcome (state-in W) h (ap read-answer (c .before .before .before .before .before .before .before .enum-told .given .1))) ∙ d .changed .ensures)
+    (accepted-taken _ _ _ (state-in W) (d .changed .ensures) (c .before .before .before .before .before .before .enum-told .given .1))
 
 same-length-2 : tie.Need-same-length-2
 same-length-2 c = search needs
 
 returns-2 : tie.Need-returns-2
+unfolding perform reply
 returns-2 c =
     let d = c .before .before in
-    let s = d .before .before .before in
+    let s = d .before .before .before .before in
     let W = s .args .block .now in
     let r = d .changed .result in
     gives W (read-answer (r .answer)) (state-in W) (c .code2 .ensures) (sym (holds-own W (omega (arith, s .pre))))
-    (other-outcome (state-in W) _ (r .answer) (c .before .match .keys2) ∙ d .changed .ensures)
+    (other-taken _ _ _ (state-in W) (r .answer) (d .changed .ensures) (c .before .match .keys2))
 
 pub take-change-spec : {M : Type 1} → statement M
 take-change-spec =

@@ -1,4 +1,4 @@
--- `seats::stepping::judge_held` meets its contract: the checks of the role come first, then that of the seats.
+-- `seats::deciding::judge_held` meets its contract: the checks of the role come first, then that of the seats.
 -- Assumes nothing.
 use borrow.Author.Needs.{needs}
 use mathlib.Core.Path.{sym, ap, _∙_}
@@ -12,8 +12,8 @@ use Rattle.seats.specs.Calls.{seat-checks}
 use Rattle.seats.specs.Reading.{state-of}
 use Rattle.seats.specs.Working.{removal-checks}
 use Rattle.seats.proofs.Changing.{before-checks}
-use Rattle.seats.proofs.stepping.judge_held.Statement.{statement}
-use Rattle.seats.proofs.stepping.judge_held.Tie as tie
+use Rattle.seats.proofs.deciding.judge_held.Statement.{statement}
+use Rattle.seats.proofs.deciding.judge_held.Tie as tie
 
 judge-role-requires : tie.Need-judge-role-requires
 judge-role-requires c κs = tt

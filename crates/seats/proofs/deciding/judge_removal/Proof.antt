@@ -1,4 +1,4 @@
--- `seats::stepping::judge_removal` meets its contract: only the removal of a role is judged here.
+-- `seats::deciding::judge_removal` meets its contract: only the removal of a role is judged here.
 -- Assumes nothing.
 use borrow.Author.Needs.{needs}
 use denote.Enum.Declared.{tagOf}
@@ -11,8 +11,8 @@ use Rattle.graph.proofs.Change.{the-type}
 use Rattle.graph.proofs.Judging.{ends}
 use Rattle.seats.specs.Seats.{State}
 use Rattle.seats.specs.Working.{removal-checks}
-use Rattle.seats.proofs.stepping.judge_removal.Statement.{statement}
-use Rattle.seats.proofs.stepping.judge_removal.Tie as tie
+use Rattle.seats.proofs.deciding.judge_removal.Statement.{statement}
+use Rattle.seats.proofs.deciding.judge_removal.Tie as tie
 
 enum-known-edit : tie.Need-enum-known-edit
 enum-known-edit c = search needs

@@ -1,4 +1,4 @@
--- `seats::stepping::judge_after` meets its contract: the checks of the graph come first, then that of the seats.
+-- `seats::deciding::judge_after` meets its contract: the checks of the graph come first, then that of the seats.
 -- Assumes nothing.
 use borrow.Author.Needs.{needs}
 use mathlib.Core.Path.{sym, ap, _∙_}
@@ -7,8 +7,8 @@ use Rattle.graph.specs.Refusing.{refused}
 use Rattle.graph.specs.Reading.{read-verdict}
 use Rattle.graph.proofs.Judging.{stops, moves-on, ends, refused-first, passed-first, place-found, place-none}
 use Rattle.seats.specs.Seats.{assigned, held, pair-seat}
-use Rattle.seats.proofs.stepping.judge_after.Statement.{statement}
-use Rattle.seats.proofs.stepping.judge_after.Tie as tie
+use Rattle.seats.proofs.deciding.judge_after.Statement.{statement}
+use Rattle.seats.proofs.deciding.judge_after.Tie as tie
 
 judge-closed-requires : tie.Need-judge-closed-requires
 judge-closed-requires c κs = tt

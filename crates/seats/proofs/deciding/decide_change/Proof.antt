@@ -1,0 +1,52 @@
+-- `seats::deciding::decide_change` meets its contract: what refuses a removal refuses the call, and the rest is judged where the change is carried out.
+-- Assumes nothing.
+use mathlib.Core.Path.{ap, _∙_}
+use borrow.Author.Needs.{needs}
+use Rattle.graph.specs.Refusing.{Verdict}
+use Rattle.graph.specs.Reading.{read-change}
+use Rattle.seats.specs.Calls.{accepted, settle}
+use Rattle.seats.specs.Reading.{state-of, read-answer}
+use Rattle.seats.proofs.Changing.{next, removal-refused, checks-without, settled-refused}
+use Rattle.seats.proofs.deciding.decide_change.Statement.{statement}
+use Rattle.seats.proofs.deciding.decide_change.Tie as tie
+
+judge-removal-requires : tie.Need-judge-removal-requires
+judge-removal-requires c κs = tt
+
+enum-known-verdict : tie.Need-enum-known-verdict
+enum-known-verdict c = search needs
+
+enum-told : tie.Need-enum-told
+enum-told c = search needs
+
+changed-requires : tie.Need-changed-requires
+changed-requires c κs = tt
+
+returns : tie.Need-returns
+unfolding read-answer
+returns c =
+    let j = c .before .before .before in
+    let g = j .before .before .before .before .args in
+    let s = state-of (g .roles) (g .sets .now) (g .conflicts .now) (g .seats .now) in
+    let told = c .before .verdict .given .1 in
+    settled-refused _ _ (removal-refused s (read-change (g .edit)) (j .judge-removal .ensures (g .sets .now) (g .conflicts .now)) told) told
+
+returns-2 : tie.Need-returns-2
+returns-2 c =
+    let j = c .before .before .before .before in
+    let g = j .before .before .before .before .args in
+    let s = state-of (g .roles) (g .sets .now) (g .conflicts .now) (g .seats .now) in
+    let d = read-change (g .edit) in
+    c .changed .ensures
+    ∙ ap (λ (v : Verdict). settle v accepted (state-of (g .roles) (g .next .now) (g .conflicts .now) (g .seats .now)) (next s d)) (checks-without s d (j .judge-removal .ensures (g .sets .now) (g .conflicts .now)) (c .before .before .enum-told .given .1))
+
+pub decide-change-spec : {M : Type 1} → statement M
+decide-change-spec =
+    tie.close
+    (tie.spec
+    judge-removal-requires
+    enum-known-verdict
+    enum-told
+    changed-requires
+    returns
+    returns-2)
