@@ -21,7 +21,7 @@ use Rattle.seats.specs.Reading.{read-answer, outcome}
 use Rattle.seats.specs.Working.{removal-checks, after-checks}
 use Rattle.seats.specs.declared.Answer.the-variants as answers
 use Rattle.seats.proofs.Answer as answer-enum
-use Rattle.seats.proofs.Requests.{refused-by}
+use Rattle.seats.proofs.Settling.{refused-by}
 
 -- Checks in the middle that refuse nothing do not count.
 skipped : (l m n : List Check) → verdict m ≡ passed → verdict (l ++ n) ≡ verdict ((l ++ m) ++ n)
@@ -73,15 +73,6 @@ module _ (s : State) (c : Change) where
   in-parts =
       sym (ap verdict (ap (λ (l : List Check). (before-checks s c ++ seat-checks s c) ++ l) (append-assoc (still-below (next .graph) c) (closed-checks (next .graph)) _)
       ∙ append-assoc (before-checks s c) (seat-checks s c) _ ∙ append-assoc (input-checks c) (state-checks (s .graph) c) _))
-
-  -- A verdict that refuses leaves the state, and one that passes has the next.
-  pub settled-refused : (l : List Check) {n p : ℕ} → verdict l ≡ refusing.refused n p → settle (verdict l) accepted s next ≡ (refused n p, s)
-  unfolding settle
-  settled-refused l e = ap (λ (v : Verdict). settle v accepted s next) e
-
-  pub settled-passed : (l : List Check) → verdict l ≡ passed → settle (verdict l) accepted s next ≡ (accepted, next)
-  unfolding settle
-  settled-passed l e = ap (λ (v : Verdict). settle v accepted s next) e
 
   module _ {v : the-data} (e : read-verdict v ≡ verdict (removal-checks s c)) where
     -- Where the checks of a removal refuse, the call is refused.

@@ -1,10 +1,10 @@
 // Kinds 8 to 12 decided on borrowed tables: the answer, and the entry that changes.
 ghost use mathlib.Core.Path.{_≡_};
-ghost use mathlib.Core.List.{[], _∷_};
-ghost use Rattle.graph.specs.Refusing.{verdict, no-role-number, end-role, role-absent};
+ghost use mathlib.Core.List.{[]};
+ghost use Rattle.graph.specs.Refusing.{verdict};
 ghost use Rattle.graph.specs.Reading.{drawn-from, read-verdict};
 ghost use Rattle.seats.specs.Seats.{State};
-ghost use Rattle.seats.specs.Calls.{declare, lift, assign, unassign, no-seat-number, perform};
+ghost use Rattle.seats.specs.Calls.{declare, lift, assign, unassign, seat-role-checks, perform};
 ghost use Rattle.seats.specs.Reading.{state-of, read-answer, read-request, read-decision};
 use crate::Answer;
 use crate::Decision;
@@ -92,7 +92,7 @@ fn decide_lift<'a>(
 
 // What refuses a seat and a role by their numbers and the roles present.
 fn judge_seat(roles: u64, a: Seat, b: Role) -> Verdict
-    ensures { λ v. ⌜ read-verdict v ≡ verdict (no-seat-number (a .0) ∷ no-role-number (b .0) ∷ end-role (b .0) ∷ role-absent (drawn-from roles []) (b .0) ∷ []) ⌝ }
+    ensures { λ v. ⌜ read-verdict v ≡ verdict (seat-role-checks (drawn-from roles []) (a .0) (b .0)) ⌝ }
 {
     if 64 <= a.0 {
         return refuse(2, a.0);

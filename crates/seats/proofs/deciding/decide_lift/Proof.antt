@@ -9,7 +9,8 @@ use Rattle.graph.specs.Refusing.{lift-checks}
 use Rattle.graph.specs.Reading.{read-verdict}
 use Rattle.seats.specs.Calls.{accepted, lift, checks, after, reply, with-graph, with-conflicts}
 use Rattle.seats.specs.Reading.{state-of, read-answer}
-use Rattle.seats.proofs.Requests.{refused-by, passed-by, none-stored, entry-stored, lift-numbers}
+use Rattle.seats.proofs.Settling.{refused-by, passed-by}
+use Rattle.seats.proofs.Requests.{none-stored, entry-stored, lift-numbers}
 use Rattle.seats.proofs.deciding.decide_lift.Statement.{statement}
 use Rattle.seats.proofs.deciding.decide_lift.Tie as tie
 

@@ -11,7 +11,8 @@ use Rattle.graph.proofs.Attempts.{first, after-passed}
 use Rattle.seats.specs.Calls.{accepted, with-graph, after}
 use Rattle.seats.specs.Reading.{state-of, read-answer, outcome}
 use Rattle.seats.specs.Working.{after-checks}
-use Rattle.seats.proofs.Changing.{before-checks, next, settled-refused, settled-passed}
+use Rattle.seats.proofs.Changing.{before-checks, next}
+use Rattle.seats.proofs.JudgedCalls.{settle-refused, settle-passed}
 use Rattle.seats.proofs.stepping.changed.Statement.{statement}
 use Rattle.seats.proofs.stepping.changed.Tie as tie
 
@@ -74,7 +75,7 @@ returns c =
     let a = c .before .before .before .before .before .attempt in
     let told = c .before .before .before2 .given .1 in
     c .refused .ensures s
-    ∙ sym (settled-refused s d (before-checks s d ++ after-checks (next s d) d)
+    ∙ sym (settle-refused accepted s (next s d)
     (sym (refused-first (before-checks s d) (after-checks (next s d) d) (first (g .roles) (g .sets .now) (g .conflicts .now) d (a .result) (a .ensures)) told) ∙ ap read-verdict told))
 
 returns-2 : tie.Need-returns-2
@@ -85,7 +86,7 @@ returns-2 c =
     let s = state-of (g .roles) (g .sets .now) (g .conflicts .now) (g .seats .now) in
     let d = read-change (g .edit) in
     c .refused2 .ensures s
-    ∙ sym (settled-refused s d (before-checks s d ++ after-checks (next s d) d) (decided j ∙ ap read-verdict (c .before .before .after .given .1)))
+    ∙ sym (settle-refused accepted s (next s d) (decided j ∙ ap read-verdict (c .before .before .after .given .1)))
 
 returns-3 : tie.Need-returns-3
 unfolding read-verdict read-answer outcome after with-graph
@@ -95,7 +96,7 @@ returns-3 c =
     let s = state-of (g .roles) (g .sets .now) (g .conflicts .now) (g .seats .now) in
     let d = read-change (g .edit) in
     ap (λ (h : Graph). (accepted, record { graph = h; seats = g .seats .now })) (moved j)
-    ∙ sym (settled-passed s d (before-checks s d ++ after-checks (next s d) d) (decided j ∙ ap read-verdict (c .enum-told2 .given .1)))
+    ∙ sym (settle-passed accepted s (next s d) (decided j ∙ ap read-verdict (c .enum-told2 .given .1)))
 
 pub changed-spec : {M : Type 1} → statement M
 changed-spec =
