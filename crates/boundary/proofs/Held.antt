@@ -10,6 +10,7 @@ use lib.ListN.{length, drop, replicate, length-append, length-drop, length-set}
 use lib.Seq.{drop-drop, take-at, drop-at}
 use lib.Dec.{eqb, leb, ltb}
 use Rattle.lists.specs.Runs.{run}
+use Rattle.lists.proofs.Settling.{settle-keeps}
 use Rattle.graph.specs.Tables.{put, take-out}
 use Rattle.graph.specs.Graph as graph
 use Rattle.graph.specs.Conflicts as conflicts
@@ -19,7 +20,7 @@ use Rattle.graph.specs.Refusing.{Verdict, passed, verdict}
 use Rattle.graph.specs.Refusing as refusing
 use Rattle.graph.proofs.Tables.{length-table}
 use Rattle.seats.specs.Seats.{State, fresh}
-use Rattle.seats.specs.Calls.{Call, change, declare, lift, assign, unassign, ask, Answer, checks, with-graph, with-conflicts, with-seats, after, reply, settle, perform}
+use Rattle.seats.specs.Calls.{Call, change, declare, lift, assign, unassign, ask, checks, with-graph, with-conflicts, with-seats, after, reply, judged, settle, perform}
 use Rattle.seats.specs.Records.{Decoded, malformed, well-formed, decode, perform-decoded, step}
 use Rattle.seats.specs.Images.{least-image, end-sets, Entry, Contents, Counts, distance, far-at, counts-at, contents, stored-pairs, restored, entry-checks, content-checks, Loaded, loaded, not-loaded, unless-refused, load-contents, load-trailer, load, settle-load, load-over}
 use Rattle.seats.specs.Lists.{answers, end}
@@ -76,15 +77,10 @@ after-sized s (assign a b) z = record { sets = z .sets; conflicts = z .conflicts
 after-sized s (unassign a b) z = record { sets = z .sets; conflicts = z .conflicts; seats = simp length-set (z .seats) }
 after-sized s (ask a b) z = z
 
-settle-sized : (v : Verdict) (a : Answer) (s h : State) → Sized s → Sized h → Sized (settle v a s h .1)
-unfolding settle
-settle-sized passed a s h y z = z
-settle-sized (refusing.refused n p) a s h y z = y
-
 decoded-sized : (s : State) (d : Decoded) → Sized s → Sized (perform-decoded s d .1)
-unfolding perform-decoded perform
+unfolding perform-decoded perform settle
 decoded-sized s malformed z = z
-decoded-sized s (well-formed c) z = settle-sized (verdict (checks s c (after s c))) (reply s c) s (after s c) z (after-sized s c z)
+decoded-sized s (well-formed c) z = settle-keeps Sized (judged (verdict (checks s c (after s c)))) (reply s c) s (after s c) z (after-sized s c z)
 
 pub step-sized : (s : State) (l : List ℕ) → Sized s → Sized (step s l .1)
 unfolding step

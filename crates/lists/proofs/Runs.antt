@@ -6,7 +6,7 @@ use mathlib.Core.List.{List, [], _∷_, _++_, map}
 use Prim.Native.Nat.{suc}
 use lib.Dec.{T}
 use lib.ListN.{length}
-use Rattle.lists.specs.Runs.{run, unrefused, trace, Each, Chain, done, link}
+use Rattle.lists.specs.Runs.{run, unrefused, trace, trace-in, Each, Chain, done, link}
 
 module _ {S R A : Type 0} (step : S → R → A × S) where
   -- What every step keeps holds at the end.
@@ -80,3 +80,17 @@ module _ {S R A : Type 0} (step : S → R → A × S) where
         go : (b : Bool) → refused (step s r .0) ≡ b → end ≡ trace change (part (step s r .1)) l′ → end ≡ trace change (part s) (cond b l′ (r ∷ l′))
         go true e same = same ∙ ap (λ (z : S). trace change (part z) l′) (kept s r (subst T (sym e) tt))
         go false e same = same ∙ ap (λ (z : B). trace change z l′) (by s r i (subst (λ (b : Bool). T (not b)) (sym e) tt))
+
+    -- The same where a record says what becomes of the part by the state that it leaves.
+    pub run-trace-in : {B : Type 0} (part : S → B) (change : R → S → B → B) (Ok : R → Type 0) (I : S → Type 0)
+        (keep : (s : S) (r : R) → Ok r → I s → I (step s r .1))
+        (by : (s : S) (r : R) → I s → T (not (refused (step s r .0))) → part (step s r .1) ≡ change r (step s r .1) (part s))
+        (s : S) (l : List R) → Each Ok l → I s → part (run step s l .1) ≡ trace-in step refused change (part s) s l
+    unfolding run trace-in Each
+    run-trace-in part change Ok I keep by s [] o i = refl
+    run-trace-in {B} part change Ok I keep by s (r ∷ l) (o, os) i =
+        run-trace-in part change Ok I keep by (step s r .1) l os (keep s r o i) ∙ ap (λ (b : B). trace-in step refused change b (step s r .1) l) (go (refused (step s r .0)) refl)
+      where
+        go : (b : Bool) → refused (step s r .0) ≡ b → part (step s r .1) ≡ cond b (part s) (change r (step s r .1) (part s))
+        go true e = ap part (kept s r (subst T (sym e) tt))
+        go false e = by s r i (subst (λ (b : Bool). T (not b)) (sym e) tt)

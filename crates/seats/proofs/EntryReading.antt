@@ -1,15 +1,14 @@
--- Entries read one after the other: the test of an ascending list, and what the readers of a table and of conflicts keep.
+-- Entries read one after the other: the test of an ascending list, the entries that are left, and what is stored of one.
 -- Assumes nothing.
 use mathlib.Core.Path.{_≡_, refl, sym, ap, _∙_, subst}
 use mathlib.Core.Bool.{Bool, true, false, _&&_, or-assoc}
 use mathlib.Core.Logic.{_≢_}
 use mathlib.Core.List.{List, [], _∷_}
-use Prim.Native.Nat.{ℕ, zero, suc, _+_, _-_, _*_, _<_}
+use Prim.Native.Nat.{ℕ, zero, suc, _+_, _-_, _<_}
 use native.Mathlib.Numerals.{add-one}
 use native.Mathlib.Omega.{arith}
 use lib.ListN.{getD}
 use lib.ListN as lists
-use lib.Bits.{or-zero-l}
 use lib.Dec.{T, leb, leb→le, le→leb, ltb, ltb→lt}
 use Rattle.sets.specs.Sets.{member, single, union}
 use Rattle.sets.proofs.Tests.{both, join}
@@ -18,7 +17,7 @@ use Rattle.graph.specs.Graph.{privilege-count}
 use Rattle.graph.specs.Tables.{at, put}
 use Rattle.seats.specs.Bytes.{number-at, Bytes}
 use Rattle.seats.specs.Images.{Entry, entries-at, keys, stored, stored-pairs, pair-place}
-use Rattle.seats.specs.ImageWork.{entry-of, ascends, numbered, paired, TableRead, PairsRead}
+use Rattle.seats.specs.ImageWork.{entry-of, ascends, numbered, paired, EntriesRead, stored-keys}
 use Rattle.seats.proofs.Entries.{Each}
 use Rattle.seats.proofs.Listing.{Rising}
 use Rattle.seats.proofs.Words.{one-byte}
@@ -81,17 +80,32 @@ module _ (place : Entry → ℕ) (good : Entry → Bool) where
 not-so : {A : Type 0} → false ≡ true → A
 not-so e = absurd (subst T (sym e) tt)
 
+-- ---- entries under way
+-- The entries l of `whole` are left: what they leave of what there is, is what all leave of what there was.
+pub record EntriesLeft {A : Type 0} (place : Entry → ℕ) (good : Entry → Bool) (store : List Entry → A → A) (low : ℕ) (whole : List Entry) (before : A) (floor : ℕ) (values : A) (l : List Entry) : Type 0 where
+  pub tested : ascends place good floor l ≡ ascends place good low whole
+  pub filled : store l values ≡ store whole before
+
+module _ {A : Type 0} (place : Entry → ℕ) (good : Entry → Bool) (store : List Entry → A → A) where
+  pub entries-all : (low : ℕ) (l : List Entry) (before : A) → EntriesLeft place good store low l before low before l
+  entries-all low l before = record { tested = refl; filled = refl }
+
+  module _ {low : ℕ} {whole : List Entry} {before : A} {floor : ℕ} {values : A} where
+    module _ (e : Entry) (l : List Entry) (w : EntriesLeft place good store low whole before floor values (e ∷ l)) where
+      -- The first entry left passes, and is stored.
+      pub entries-next : leb floor (place e) && good e ≡ true → {next : A} → store l next ≡ store (e ∷ l) values → EntriesLeft place good store low whole before (place e + 1) next l
+      entries-next t q = record { tested = sym (ascends-next place good floor e l t) ∙ w .tested; filled = q ∙ w .filled }
+
+      -- It is refused.
+      pub entries-refused : leb floor (place e) && good e ≡ false → EntriesRead place good store low whole before values false
+      entries-refused t = record { tested = sym (ascends-stops place good floor e l t) ∙ w .tested; filled = λ q. not-so q }
+
+    -- None is left.
+    pub entries-done : EntriesLeft place good store low whole before floor values [] → store [] values ≡ values → EntriesRead place good store low whole before values true
+    unfolding ascends
+    entries-done w q = record { tested = w .tested; filled = λ _. sym q ∙ w .filled }
+
 -- ---- a table
--- The table of `whole` is under way: the entries l are left, and what they give with what was read is what all give.
-pub record TableReading (low least allowed : ℕ) (before : List ℕ) (whole : List Entry) (held floor : ℕ) (values : List ℕ) (l : List Entry) : Type 0 where
-  pub tested : ascends Entry.key (numbered least allowed) floor l ≡ ascends Entry.key (numbered least allowed) low whole
-  pub keyed : union held (keys l) ≡ keys whole
-  pub filled : stored l values ≡ stored whole before
-
-pub table-starts : (low least allowed : ℕ) (before : List ℕ) (l : List Entry) → TableReading low least allowed before l 0 low before l
-unfolding union
-table-starts low least allowed before l = record { tested = refl; keyed = or-zero-l (keys l); filled = refl }
-
 union-assoc : (s t u : ℕ) → union (union s t) u ≡ union s (union t u)
 union-assoc s t u =
     equal-members (union (union s t) u) (union s (union t u))
@@ -104,38 +118,17 @@ key-lt floor least allowed k v t =
     let (a, b) = both (leb floor k) (numbered least allowed (entry-of k v)) (subst T (sym t) tt) in
     ltb→lt k 64 (both (ltb k 64) _ b .0)
 
-module _ {low least allowed : ℕ} {before : List ℕ} {whole : List Entry} {held floor : ℕ} {values : List ℕ} where
-  pub table-next : {k v : ℕ} {l : List Entry} → TableReading low least allowed before whole held floor values (entry-of k v ∷ l)
-      → leb floor k && numbered least allowed (entry-of k v) ≡ true → {one next : ℕ} → one ≡ single k → next ≡ union held one
-      → TableReading low least allowed before whole next (k + 1) (lists.set values k v) l
-  unfolding keys stored
-  table-next {k} {v} {l} w t o q = record {
-    tested = sym (ascends-next Entry.key (numbered least allowed) floor (entry-of k v) l t) ∙ w .tested;
-    keyed = ap (λ (s : ℕ). union s (keys l)) (q ∙ ap (union held) o) ∙ union-assoc held (single k) (keys l) ∙ w .keyed;
-    filled = w .filled;
-  }
+-- No entry stored, and one stored in a table.
+pub key-none : (z : ℕ × List ℕ) → stored-keys [] z ≡ z
+unfolding keys stored
+key-none z = ap (λ (s : ℕ). (s, z .1)) (union-empty (z .0))
 
-  pub table-refused : {k v : ℕ} {l : List Entry} → TableReading low least allowed before whole held floor values (entry-of k v ∷ l)
-      → leb floor k && numbered least allowed (entry-of k v) ≡ false → TableRead whole low least allowed before values held false
-  table-refused {k} {v} {l} w t = record {
-    tested = sym (ascends-stops Entry.key (numbered least allowed) floor (entry-of k v) l t) ∙ w .tested;
-    keyed = λ e. not-so e;
-    filled = λ e. not-so e;
-  }
-
-  pub table-done : TableReading low least allowed before whole held floor values [] → TableRead whole low least allowed before values held true
-  unfolding ascends keys stored
-  table-done w = record { tested = w .tested; keyed = λ e. sym (union-empty held) ∙ w .keyed; filled = λ e. w .filled }
+pub key-stored : (held k v : ℕ) (values : List ℕ) (l : List Entry) {one next : ℕ} → one ≡ single k → next ≡ union held one → stored-keys l (next, lists.set values k v) ≡ stored-keys (entry-of k v ∷ l) (held, values)
+unfolding keys stored
+key-stored held k v values l o q =
+    ap (λ (s : ℕ). (s, stored l (lists.set values k v))) (ap (λ (s : ℕ). union s (keys l)) (q ∙ ap (union held) o) ∙ union-assoc held (single k) (keys l))
 
 -- ---- conflicts
--- The conflicts of `whole` are under way, likewise.
-pub record PairsReading (before : List ℕ) (whole : List Entry) (floor : ℕ) (values : List ℕ) (l : List Entry) : Type 0 where
-  pub tested : ascends pair-place paired floor l ≡ ascends pair-place paired 0 whole
-  pub filled : stored-pairs l values ≡ stored-pairs whole before
-
-pub pairs-start : (before : List ℕ) (l : List Entry) → PairsReading before l 0 before l
-pairs-start before l = record { tested = refl; filled = refl }
-
 -- The privileges of a conflict that passes ascend and are privileges.
 pub pair-lt : (floor a b : ℕ) → leb floor (pair-place (entry-of a b)) && paired (entry-of a b) ≡ true → (a < b) × (b < privilege-count)
 unfolding paired
@@ -144,23 +137,11 @@ pair-lt floor a b t =
     let (p, q) = both (ltb a b) (ltb b privilege-count) y in
     (ltb→lt a b p, ltb→lt b privilege-count q)
 
-module _ {before : List ℕ} {whole : List Entry} {floor : ℕ} {values : List ℕ} where
-  pub pairs-next : {a b : ℕ} {l : List Entry} → PairsReading before whole floor values (entry-of a b ∷ l)
-      → leb floor (pair-place (entry-of a b)) && paired (entry-of a b) ≡ true → {one next : ℕ} → one ≡ single b → next ≡ union (at values a) one
-      → PairsReading before whole (256 * a + b + 1) (lists.set values a next) l
-  unfolding stored-pairs put pair-place
-  pairs-next {a} {b} {l} w t o q = record {
-    tested = sym (ascends-next pair-place paired floor (entry-of a b) l t) ∙ w .tested;
-    filled = ap (λ (s : ℕ). stored-pairs l (lists.set values a s)) (q ∙ ap (union (at values a)) o) ∙ w .filled;
-  }
+-- No conflict stored, and one stored in a table.
+pub pair-none : (values : List ℕ) → stored-pairs [] values ≡ values
+unfolding stored-pairs
+pair-none values = refl
 
-  pub pairs-refused : {a b : ℕ} {l : List Entry} → PairsReading before whole floor values (entry-of a b ∷ l)
-      → leb floor (pair-place (entry-of a b)) && paired (entry-of a b) ≡ false → PairsRead whole before values false
-  pairs-refused {a} {b} {l} w t = record {
-    tested = sym (ascends-stops pair-place paired floor (entry-of a b) l t) ∙ w .tested;
-    filled = λ e. not-so e;
-  }
-
-  pub pairs-done : PairsReading before whole floor values [] → PairsRead whole before values true
-  unfolding ascends stored-pairs
-  pairs-done w = record { tested = w .tested; filled = λ e. w .filled }
+pub pair-stored : (a b : ℕ) (values : List ℕ) (l : List Entry) {one next : ℕ} → one ≡ single b → next ≡ union (at values a) one → stored-pairs l (lists.set values a next) ≡ stored-pairs (entry-of a b ∷ l) values
+unfolding stored-pairs put
+pair-stored a b values l o q = ap (λ (s : ℕ). stored-pairs l (lists.set values a s)) (q ∙ ap (union (at values a)) o)

@@ -1,3 +1,4 @@
+pub mod JudgedCalls
 pub mod Settling
 pub mod Keeping
 pub mod Recorded

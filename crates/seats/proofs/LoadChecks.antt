@@ -9,10 +9,10 @@ use native.Mathlib.Nat.{mod-eq-of-lt}
 use native.Mathlib.Omega.{arith}
 use lib.ListN.{length, replicate}
 use lib.ListN as lists
-use lib.Bits.{and-mask}
+use lib.Bits.{and-mask, or-zero-l}
 use lib.Dec.{T, T-not, not-T, eqb, leb, leb→le, le→leb, ltb, ltb→lt, lt→ltb}
 use borrow.Author.Tests.{lt-ltb, le-ltb, le-leb, lt-leb, eq-eqb, ne-eqb}
-use Rattle.sets.specs.Sets.{empty, included}
+use Rattle.sets.specs.Sets.{empty, union, included}
 use Rattle.sets.proofs.Tests.{both, join, passes, fails, decide, equal-test, test-equal}
 use Rattle.graph.specs.Graph.{privilege-count}
 use Rattle.graph.specs.Refusing.{Check, Verdict, passed, refused, verdict}
@@ -125,11 +125,15 @@ alike-verdict n p l h false f g = refuses l h g
 module _ (c : Contents) (small : Each (λ e. e .value < 2 ^ 64) (c .roles)) {sets conflicts seats : List ℕ} {present occupied : ℕ} {a b d : Bool}
     (r : TableRead (c .roles) 2 0 all-sets (end-sets (c .top)) sets present a) (p : PairsRead (c .conflicts) (replicate privilege-count 0) conflicts b)
     (s : TableRead (c .seats) 0 1 present (replicate 64 0) seats occupied d) where
+  keyed : a ≡ true → present ≡ keys (c .roles)
+  unfolding union
+  keyed e = ap (λ (z : ℕ × List ℕ). z .0) (r .filled e) ∙ or-zero-l (keys (c .roles))
+
   sound-test : (a && b) && d ≡ entries-test c
   sound-test = by-roles a refl ∙ ap (λ (x : Bool). (x && pairs-test c) && seats-test c (keys (c .roles))) (r .tested)
     where
       by-roles : (x : Bool) → a ≡ x → (x && b) && d ≡ (x && pairs-test c) && seats-test c (keys (c .roles))
-      by-roles true e = ap₂ _&&_ (p .tested) (s .tested ∙ ap (seats-test c) (r .keyed e))
+      by-roles true e = ap₂ _&&_ (p .tested) (s .tested ∙ ap (seats-test c) (keyed e))
       by-roles false e = refl
 
   pub contents-read : ContentsRead c (state-of present sets conflicts seats) ((a && b) && d)
@@ -143,10 +147,10 @@ module _ (c : Contents) (small : Each (λ e. e .value < 2 ^ 64) (c .roles)) {set
     described = λ e.
         let (x, y) = both (a && b) d (subst T (sym e) tt) in
         let (u, v) = both a b x in
-        let k = r .keyed (passes a u) in
-        let f = r .filled (passes a u) in
+        let k = keyed (passes a u) in
+        let f = ap (λ (z : ℕ × List ℕ). z .1) (r .filled (passes a u)) in
         let g = p .filled (passes b v) in
-        let h = s .filled (passes d y) in
+        let h = ap (λ (z : ℕ × List ℕ). z .1) (s .filled (passes d y)) in
         λ i. state-of (k i) (f i) (g i) (h i);
   }
 

@@ -5,8 +5,6 @@ use mathlib.Core.Bool.{Bool, true, false, cond, _&&_}
 use mathlib.Core.Logic.{inl, inr}
 use mathlib.Core.List.{List, [], _∷_}
 use Prim.Native.Nat.{ℕ, zero, suc, _<_, _^_}
-use native.Mathlib.Nat.{pow-suc, zero-lt-suc}
-use native.Mathlib.Omega.{arith}
 use lib.ListN.{getD, length}
 use lib.Dec.{leb, eqb}
 use Rattle.lists.specs.Runs.{Each}
@@ -17,19 +15,9 @@ use Rattle.seats.specs.Calls.{Call, change, declare, lift, assign, unass
 use Rattle.seats.specs.Records.{record-length, Decoded, malformed, well-formed, Fields, fields, unused, kind, kinds, decode, perform-decoded, step}
 use Rattle.seats.specs.Invariants.{Invariant}
 use Rattle.seats.proofs.Settling.{settled}
+use Rattle.seats.proofs.Numbers.{number-lt}
 use Rattle.graph.proofs.Edits.{Fits}
 use Rattle.seats.proofs.Keeping.{FitsCall, call-keeps}
-
-byte-at : (l : List ℕ) (i : ℕ) → Bytes l → getD l i 0 < 256
-unfolding Bytes
-byte-at [] i b = zero-lt-suc 255
-byte-at (x ∷ l) zero (h, b) = h
-byte-at (x ∷ l) (suc i) (h, b) = byte-at l i b
-
-number-lt : (n i : ℕ) (l : List ℕ) → Bytes l → number-at n i l < 256 ^ n
-unfolding number-at
-number-lt zero i l b = zero-lt-suc 0
-number-lt (suc n) i l b = rw (pow-suc 256 n) (omega (arith, byte-at l i b, number-lt n (suc i) l b))
 
 -- What is decoded carries sets of their width.
 unfoldable pub FitsDecoded : Decoded → Type 0

@@ -1,4 +1,4 @@
--- What requests come to, by the verdict on their checks; what they store; and what a seat has and holds where a role is added to some seat.
+-- What requests store, which numbers their checks let through, and what a seat has and holds where a role is added to some seat.
 -- Assumes nothing.
 use mathlib.Core.Path.{_≡_, refl, sym, ap, _∙_, subst}
 use mathlib.Core.Bool.{Bool, true, false, not, _&&_, _||_}
@@ -18,23 +18,10 @@ use Rattle.sets.proofs.Laws.{member-empty, member-union, member-when, member-si
 use Rattle.graph.specs.Tables.{at, put}
 use Rattle.graph.specs.Graph.{Graph, role-count, privilege-count}
 use Rattle.graph.specs.Conflicts.{holds-both, holds-pair}
-use Rattle.graph.specs.Refusing.{Check, refuse, refuse-lowest, Verdict, passed, verdict, no-role-number, end-role, role-absent, declare-checks}
-use Rattle.graph.specs.Refusing as refusing
+use Rattle.graph.specs.Refusing.{Check, refuse, refuse-lowest, passed, verdict, declare-checks}
 use Rattle.graph.proofs.Refusals.{Passes, passed-passes, number-lt}
 use Rattle.seats.specs.Seats.{State, seat-count, assigned, pair-seat}
-use Rattle.seats.specs.Calls.{Call, assign, refused, no-seat-number, checks, after, reply, settle, perform}
-
--- ---- verdicts
-module _ (s : State) (c : Call) where
-  -- A call that its checks refuse.
-  pub refused-by : {n p : ℕ} → verdict (checks s c (after s c)) ≡ refusing.refused n p → perform s c ≡ (refused n p, s)
-  unfolding perform settle
-  refused-by e = ap (λ (v : Verdict). settle v (reply s c) s (after s c)) e
-
-  -- A call that no check refuses.
-  pub passed-by : verdict (checks s c (after s c)) ≡ passed → perform s c ≡ (reply s c, after s c)
-  unfolding perform settle
-  passed-by e = ap (λ (v : Verdict). settle v (reply s c) s (after s c)) e
+use Rattle.seats.specs.Calls.{assign, after, seat-role-checks}
 
 -- ---- numbers that are not refused
 -- Two numbers that kind 8 does not refuse are privileges.
@@ -45,10 +32,6 @@ declare-numbers g a b e =
     let k = number-lt privilege-count a x in
     let l = number-lt privilege-count b y in
     omega arith
-
--- What judges a seat and a role by their numbers and the roles present.
-abbrev pub seat-role-checks : Graph → ℕ → ℕ → List Check
-seat-role-checks g a b = no-seat-number a ∷ no-role-number b ∷ end-role b ∷ role-absent g b ∷ []
 
 -- What judges kind 10 after these.
 abbrev pub assign-late : State → ℕ → ℕ → List Check

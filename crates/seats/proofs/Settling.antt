@@ -1,51 +1,43 @@
 -- One call: it is refused and leaves the state, or nothing refuses it and it leaves the state after it.
 -- Assumes nothing.
-use mathlib.Core.Path.{_≡_, refl, ap, subst}
+use mathlib.Core.Path.{_≡_, refl}
 use mathlib.Core.Bool.{true, not}
-use mathlib.Core.Logic.{_⊎_, inl, inr}
+use mathlib.Core.Logic.{_⊎_}
 use mathlib.Core.List.{List}
 use Prim.Native.Nat.{ℕ}
 use lib.Dec.{T}
 use Rattle.graph.specs.Editing.{add-by-place, add-by-privileges, remove-role, grant, withdraw, add-edge, remove-edge}
-use Rattle.graph.specs.Refusing.{Verdict, passed, verdict, input-checks, state-checks, still-below, closed-checks, declare-checks, lift-checks}
+use Rattle.graph.specs.Refusing.{passed, verdict, input-checks, state-checks, still-below, closed-checks, declare-checks, lift-checks}
 use Rattle.graph.specs.Refusing as refusing
-use Rattle.graph.proofs.Refusals.{Passes, passed-passes, verdict-passes, ascending-numbers, ascending-from}
+use Rattle.graph.proofs.Refusals.{Passes, ascending-numbers, ascending-from}
+use Rattle.seats.proofs.JudgedCalls.{Refuses, Accepts, refused-call, passed-call, call-settles, passing-call, refused-call-leaves, unrefused-call-accepts}
 use Rattle.seats.specs.Seats.{State}
-use Rattle.seats.specs.Calls.{Call, change, declare, lift, assign, unassign, ask, Answer, refused, seat-checks, checks, after, reply, settle, perform, is-refusal}
+use Rattle.seats.specs.Calls.{Call, change, declare, lift, assign, unassign, ask, refused, seat-checks, checks, after, reply, settle, perform, is-refusal}
 use Rattle.seats.specs.Records.{Decoded, malformed, well-formed, decode, perform-decoded, step}
 
--- A refusal of the call, with its number and place, that leaves the state.
-pub record Refused (s : State) (c : Call) : Type 0 where
-  pub number : ℕ
-  pub place : ℕ
-  pub by-verdict : verdict (checks s c (after s c)) ≡ refusing.refused number place
-  pub answer : perform s c ≡ (refused number place, s)
+pub performs : (s : State) (c : Call) → perform s c ≡ settle (verdict (checks s c (after s c))) (reply s c) s (after s c)
+unfolding perform
+performs s c = refl
 
--- Nothing refuses the call.
-pub record Accepted (s : State) (c : Call) : Type 0 where
-  pub passes : Passes (checks s c (after s c))
-  pub answer : perform s c ≡ (reply s c, after s c)
+-- A refusal of the call that leaves the state, and that nothing refuses it.
+abbrev pub Refused : State → Call → Type 0
+Refused = Refuses checks after reply perform performs
+
+abbrev pub Accepted : State → Call → Type 0
+Accepted = Accepts checks after reply perform performs
 
 pub settled : (s : State) (c : Call) → Refused s c ⊎ Accepted s c
-unfolding perform settle
-settled s c = go (verdict (checks s c (after s c))) refl
-  where
-    go : (v : Verdict) → verdict (checks s c (after s c)) ≡ v → Refused s c ⊎ Accepted s c
-    go passed e = inr (record {
-      passes = passed-passes (checks s c (after s c)) e;
-      answer = ap (λ (v : Verdict). settle v (reply s c) s (after s c)) e;
-    })
-    go (refusing.refused n p) e = inl (record {
-      number = n;
-      place = p;
-      by-verdict = e;
-      answer = ap (λ (v : Verdict). settle v (reply s c) s (after s c)) e;
-    })
+settled = call-settles checks after reply perform performs
+
+pub refused-by : (s : State) (c : Call) {n p : ℕ} → verdict (checks s c (after s c)) ≡ refusing.refused n p → perform s c ≡ (refused n p, s)
+refused-by = refused-call checks after reply perform performs
+
+pub passed-by : (s : State) (c : Call) → verdict (checks s c (after s c)) ≡ passed → perform s c ≡ (reply s c, after s c)
+passed-by = passed-call checks after reply perform performs
 
 -- A call that nothing refuses is accepted.
 pub accepted-by : (s : State) (c : Call) → Passes (checks s c (after s c)) → perform s c ≡ (reply s c, after s c)
-unfolding perform settle
-accepted-by s c t = ap (λ (v : Verdict). settle v (reply s c) s (after s c)) (verdict-passes (checks s c (after s c)) t)
+accepted-by = passing-call checks after reply perform performs
 
 reply-no-refusal : (s : State) (c : Call) → T (is-refusal (reply s c)) → ⊥
 unfolding reply is-refusal
@@ -57,17 +49,10 @@ reply-no-refusal s (unassign a b) t = t
 reply-no-refusal s (ask a b) t = t
 
 pub perform-refused : (s : State) (c : Call) → T (is-refusal (perform s c .0)) → perform s c .1 ≡ s
-perform-refused s c t = elim (settled s c) [
-  | inl r ↦ ap (λ (z : Answer × State). z .1) (r .answer)
-  | inr a ↦ absurd (reply-no-refusal s c (subst (λ (z : Answer × State). T (is-refusal (z .0))) (a .answer) t))
-]
+perform-refused = refused-call-leaves checks after reply perform performs reply-no-refusal
 
 pub perform-accepted : (s : State) (c : Call) → T (not (is-refusal (perform s c .0))) → Accepted s c
-unfolding is-refusal
-perform-accepted s c t = elim (settled s c) [
-  | inl r ↦ absurd (subst (λ (z : Answer × State). T (not (is-refusal (z .0)))) (r .answer) t)
-  | inr a ↦ a
-]
+perform-accepted = unrefused-call-accepts checks after reply perform performs
 
 -- ---- records of any bytes
 -- A refused record leaves the state exactly as it was.

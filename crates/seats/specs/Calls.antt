@@ -3,6 +3,8 @@ use mathlib.Core.Bool.{Bool, true, false, not}
 use mathlib.Core.List.{List, [], _∷_, _++_}
 use Prim.Native.Nat.{ℕ}
 use lib.Dec.{leb}
+use Rattle.lists.specs.Settling.{Judged}
+use Rattle.lists.specs.Settling as settling
 use Rattle.graph.specs.Tables.{put, take-out}
 use Rattle.graph.specs.Graph.{Graph}
 use Rattle.graph.specs.Conflicts as conflicts
@@ -34,6 +36,10 @@ pub data Answer : Type 0 where
 abbrev pub no-seat-number : ℕ → Check
 no-seat-number a = refuse 2 (leb seat-count a) a
 
+-- What refuses a seat and a role by their numbers and the roles present: 2, 3 and 21.
+abbrev pub seat-role-checks : Graph → ℕ → ℕ → List Check
+seat-role-checks g a b = no-seat-number a ∷ no-role-number b ∷ end-role b ∷ role-absent g b ∷ []
+
 -- 24: kind 3, and some seat has role a.
 unfoldable pub seat-checks : State → Change → List Check
 seat-checks s (remove-role a b) = refuse-lowest 24 seat-count (λ i. assigned s i a) ∷ []
@@ -53,21 +59,8 @@ checks s (change c) h =
     ++ (still-below (h .graph) c ++ (closed-checks (h .graph) ++ (refuse-lowest 30 seat-count (pair-seat h) ∷ [])))))
 checks s (declare a b) h = declare-checks (s .graph) a b ++ (refuse-lowest 30 seat-count (offered-seat s a b) ∷ [])
 checks s (lift a b) h = lift-checks (s .graph) a b
-checks s (assign a b) h =
-    no-seat-number a
-    ∷ no-role-number b
-    ∷ end-role b
-    ∷ role-absent (s .graph) b
-    ∷ refuse 22 (assigned s a b) a
-    ∷ refuse-lowest 30 seat-count (pair-seat h)
-    ∷ []
-checks s (unassign a b) h =
-    no-seat-number a
-    ∷ no-role-number b
-    ∷ end-role b
-    ∷ role-absent (s .graph) b
-    ∷ refuse 23 (not (assigned s a b)) a
-    ∷ []
+checks s (assign a b) h = seat-role-checks (s .graph) a b ++ (refuse 22 (assigned s a b) a ∷ refuse-lowest 30 seat-count (pair-seat h) ∷ [])
+checks s (unassign a b) h = seat-role-checks (s .graph) a b ++ (refuse 23 (not (assigned s a b)) a ∷ [])
 checks s (ask a b) h = no-seat-number a ∷ no-privilege-number b ∷ []
 
 -- The state with another graph.
@@ -100,10 +93,14 @@ reply s (assign a b) = accepted
 reply s (unassign a b) = accepted
 reply s (ask a b) = answered (may-use s a b)
 
+-- A verdict by the answer that refuses, if one does.
+unfoldable pub judged : Verdict → Judged Answer
+judged passed = settling.passed
+judged (refusing.refused n p) = settling.refused (refused n p)
+
 -- A refusal leaves the state s as it was; without one the answer is a and the state h.
-unfoldable pub settle : Verdict → Answer → State → State → Answer × State
-settle passed a s h = (a, h)
-settle (refusing.refused n p) a s h = (refused n p, s)
+unfoldable pub settle : {S : Type 0} → Verdict → Answer → S → S → Answer × S
+settle v a s h = settling.settle (judged v) a s h
 
 -- One call.
 unfoldable pub perform : State → Call → Answer × State

@@ -4,7 +4,7 @@ use mathlib.Core.Bool.{Bool, true, cond, _&&_}
 use mathlib.Core.List.{List, [], _∷_}
 use Prim.Native.Nat.{ℕ, suc, _<_}
 use lib.Dec.{leb, ltb}
-use Rattle.sets.specs.Sets.{empty, member, included}
+use Rattle.sets.specs.Sets.{empty, member, union, included}
 use Rattle.graph.specs.Tables.{at}
 use Rattle.graph.specs.Graph.{privilege-count}
 use Rattle.graph.specs.Refusing.{passed, refused, verdict}
@@ -49,16 +49,22 @@ numbered least allowed e = ltb (e .key) 64 && (leb least (e .value) && included 
 unfoldable pub paired : Entry → Bool
 paired e = ltb (e .key) (e .value) && ltb (e .value) privilege-count
 
--- A table after entries were read into it, with the set of their keys, and whether none of them is refused.
-pub record TableRead (l : List Entry) (low least allowed : ℕ) (before after : List ℕ) (set : ℕ) (sound : Bool) : Type 0 where
-  pub tested : sound ≡ ascends Entry.key (numbered least allowed) low l
-  pub keyed : sound ≡ true → set ≡ keys l
-  pub filled : sound ≡ true → after ≡ stored l before
+-- What entries read one after the other leave, and whether none of them is refused: their places ascend strictly from low on, each passes, and `store` stores them.
+pub record EntriesRead {A : Type 0} (place : Entry → ℕ) (good : Entry → Bool) (store : List Entry → A → A) (low : ℕ) (l : List Entry) (before after : A) (sound : Bool) : Type 0 where
+  pub tested : sound ≡ ascends place good low l
+  pub filled : sound ≡ true → after ≡ store l before
 
--- A table of conflicts after entries were read into it, and whether none of them is refused.
-pub record PairsRead (l : List Entry) (before after : List ℕ) (sound : Bool) : Type 0 where
-  pub tested : sound ≡ ascends pair-place paired 0 l
-  pub filled : sound ≡ true → after ≡ stored-pairs l before
+-- The entries' keys added to a set, and their values stored in a table.
+abbrev pub stored-keys : List Entry → ℕ × List ℕ → ℕ × List ℕ
+stored-keys l z = (union (z .0) (keys l), stored l (z .1))
+
+-- A table after entries were read into it, with the set of their keys.
+abbrev pub TableRead : List Entry → ℕ → ℕ → ℕ → List ℕ → List ℕ → ℕ → Bool → Type 0
+TableRead l low least allowed before after set sound = EntriesRead Entry.key (numbered least allowed) stored-keys low l (empty, before) (set, after) sound
+
+-- A table of conflicts after entries were read into it.
+abbrev pub PairsRead : List Entry → List ℕ → List ℕ → Bool → Type 0
+PairsRead l before after sound = EntriesRead pair-place paired stored-pairs 0 l before after sound
 
 -- The state that contents describe, and whether none of their entries is refused.
 pub record ContentsRead (c : Contents) (s : State) (sound : Bool) : Type 0 where

@@ -1,12 +1,12 @@
 // Calls decided on borrowed tables: of kinds 8 to 12 the answer and what is stored, of kinds 1 to 7 the answer, the roles and the sets after it.
 ghost use mathlib.Core.Path.{_≡_};
-ghost use mathlib.Core.List.{List, [], _∷_, _++_};
+ghost use mathlib.Core.List.{List, [], _++_};
 ghost use Prim.Native.Nat.{ℕ};
 ghost use Rattle.graph.specs.Editing.{remove-role};
-ghost use Rattle.graph.specs.Refusing.{verdict, input-checks, state-checks, no-role-number, end-role, role-absent};
+ghost use Rattle.graph.specs.Refusing.{verdict, input-checks, state-checks};
 ghost use Rattle.graph.specs.Reading.{drawn-from, read-verdict, read-change};
 ghost use Rattle.seats.specs.Seats.{State};
-ghost use Rattle.seats.specs.Calls.{change, declare, lift, assign, unassign, accepted, no-seat-number, checks, after, settle, perform};
+ghost use Rattle.seats.specs.Calls.{change, declare, lift, assign, unassign, accepted, seat-role-checks, checks, after, settle, perform};
 ghost use Rattle.seats.specs.Working.{removal-checks, after-checks};
 ghost use Rattle.seats.specs.Reading.{state-of, read-answer, read-request, read-decision};
 use crate::Answer;
@@ -94,7 +94,7 @@ fn decide_lift<'a>(
 
 // What refuses a seat and a role by their numbers and the roles present.
 fn judge_seat(roles: u64, a: Seat, b: Role) -> Verdict
-    ensures { λ v. ⌜ read-verdict v ≡ verdict (no-seat-number (a .0) ∷ no-role-number (b .0) ∷ end-role (b .0) ∷ role-absent (drawn-from roles []) (b .0) ∷ []) ⌝ }
+    ensures { λ v. ⌜ read-verdict v ≡ verdict (seat-role-checks (drawn-from roles []) (a .0) (b .0)) ⌝ }
 {
     if 64 <= a.0 {
         return refuse(2, a.0);

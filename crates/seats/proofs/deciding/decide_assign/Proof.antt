@@ -12,9 +12,10 @@ use Rattle.graph.specs.Tables.{put}
 use Rattle.graph.specs.Reading.{read-verdict}
 use Rattle.graph.proofs.Judging.{stops, moves-on, ends, refused-first, passed-first, place-found, place-none}
 use Rattle.seats.specs.Seats.{assigned, held, pair-seat}
-use Rattle.seats.specs.Calls.{Answer, accepted, refused, assign, checks, after, reply, with-seats}
+use Rattle.seats.specs.Calls.{Answer, seat-role-checks, accepted, refused, assign, checks, after, reply, with-seats}
 use Rattle.seats.specs.Reading.{state-of, read-answer, stored}
-use Rattle.seats.proofs.Requests.{refused-by, passed-by, seat-role-checks, assign-late, seat-numbers}
+use Rattle.seats.proofs.Settling.{refused-by, passed-by}
+use Rattle.seats.proofs.Requests.{assign-late, seat-numbers}
 use Rattle.seats.proofs.deciding.decide_assign.Statement.{statement}
 use Rattle.seats.proofs.deciding.decide_assign.Tie as tie
 

@@ -14,7 +14,8 @@ use Rattle.graph.proofs.Judging.{stops, moves-on, ends, refused-first, passed-f
 use Rattle.seats.specs.Seats.{assigned, held, offered-seat}
 use Rattle.seats.specs.Calls.{Answer, accepted, refused, declare, checks, after, reply, with-conflicts}
 use Rattle.seats.specs.Reading.{state-of, read-answer, stored}
-use Rattle.seats.proofs.Requests.{refused-by, passed-by, declare-numbers}
+use Rattle.seats.proofs.Settling.{refused-by, passed-by}
+use Rattle.seats.proofs.Requests.{declare-numbers}
 use Rattle.seats.proofs.deciding.decide_declare.Statement.{statement}
 use Rattle.seats.proofs.deciding.decide_declare.Tie as tie
 

@@ -10,7 +10,7 @@ use Rattle.graph.specs.Refusing.{lift-checks}
 use Rattle.graph.specs.Reading.{read-verdict}
 use Rattle.seats.specs.Calls.{accepted, lift, checks, after, reply, with-conflicts}
 use Rattle.seats.specs.Reading.{state-of, read-answer, stored}
-use Rattle.seats.proofs.Requests.{refused-by, passed-by}
+use Rattle.seats.proofs.Settling.{refused-by, passed-by}
 use Rattle.seats.proofs.deciding.decide_lift.Statement.{statement}
 use Rattle.seats.proofs.deciding.decide_lift.Tie as tie
 

@@ -12,9 +12,10 @@ use Rattle.graph.specs.Tables.{take-out}
 use Rattle.graph.specs.Reading.{read-verdict}
 use Rattle.graph.proofs.Judging.{stops, moves-on, ends, refused-first, passed-first}
 use Rattle.seats.specs.Seats.{assigned}
-use Rattle.seats.specs.Calls.{Answer, accepted, unassign, checks, after, reply, with-seats}
+use Rattle.seats.specs.Calls.{Answer, seat-role-checks, accepted, unassign, checks, after, reply, with-seats}
 use Rattle.seats.specs.Reading.{state-of, read-answer, stored}
-use Rattle.seats.proofs.Requests.{refused-by, passed-by, seat-role-checks, unassign-late, seat-numbers}
+use Rattle.seats.proofs.Settling.{refused-by, passed-by}
+use Rattle.seats.proofs.Requests.{unassign-late, seat-numbers}
 use Rattle.seats.proofs.deciding.decide_unassign.Statement.{statement}
 use Rattle.seats.proofs.deciding.decide_unassign.Tie as tie
 

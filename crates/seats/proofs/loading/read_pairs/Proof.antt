@@ -7,20 +7,21 @@ use mathlib.Core.Path.{sym, _∙_}
 use Prim.Native.Nat.{_+_, _*_, _≤_, _<_}
 use lib.ListN.{length, getD}
 use Rattle.graph.specs.Tables.{at}
-use Rattle.seats.specs.Images.{entries-at}
-use Rattle.seats.proofs.EntryReading.{first-pair, no-entries, PairsReading, pairs-start, pairs-next, pairs-refused, pairs-done, pair-lt}
+use Rattle.seats.specs.Images.{entries-at, stored-pairs, pair-place}
+use Rattle.seats.specs.ImageWork.{paired}
+use Rattle.seats.proofs.EntryReading.{first-pair, no-entries, EntriesLeft, entries-all, entries-next, entries-refused, entries-done, pair-lt, pair-none, pair-stored}
 use Rattle.seats.proofs.loading.read_pairs.Statement.{statement}
 use Rattle.seats.proofs.loading.read_pairs.Tie as tie
 
 abbrev Inv-loop : tie.InvT-loop
 Inv-loop bytes at count table₀ floor₀ place₀ left₀ table floor place left =
-    (place + 2 * left ≤ length bytes) × PairsReading table₀ (entries-at 1 at count bytes) floor table (entries-at 1 place left bytes)
+    (place + 2 * left ≤ length bytes) × EntriesLeft pair-place paired stored-pairs 0 (entries-at 1 at count bytes) table₀ floor table (entries-at 1 place left bytes)
 
 abbrev μ-loop : tie.MeasureT-loop
 μ-loop bytes at count table₀ floor₀ place₀ left₀ table floor place left = left
 
 loop-holds : tie.Need-loop-holds Inv-loop μ-loop
-loop-holds c = (search needs, pairs-start _ _)
+loop-holds c = (search needs, entries-all _ _ _ _ _ _)
 
 shared-slice-read-lower : tie.Need-shared-slice-read-lower Inv-loop μ-loop
 shared-slice-read-lower c = search needs
@@ -46,7 +47,7 @@ returns c =
     let b = c .before .before .before .before in
     let l = b .before .loop in
     let e = first-pair (l .place) (l .left) (b .before .before .before .args .bytes .now) (b .loop-test .taken) in
-    pairs-refused (rw e at (l .inv .1)) (sym (c .before .admits-pair .ensures) ∙ not-true _ (c .if1 .taken))
+    entries-refused _ _ _ _ _ (rw e at (l .inv .1)) (sym (c .before .admits-pair .ensures) ∙ not-true _ (c .if1 .taken))
 
 cast-a : tie.Need-cast-a Inv-loop μ-loop
 cast-a c = let (a, b) = pair-small c in omega arith
@@ -91,18 +92,18 @@ loop-less : tie.Need-loop-less Inv-loop μ-loop
 loop-less c = search needs
 
 loop-again : tie.Need-loop-again Inv-loop μ-loop
-unfolding at
+unfolding at pair-place
 loop-again c =
     let b = c .before .before .before .before .before .before .before in
     let l = b .before .loop in
     let e = first-pair (l .place) (l .left) (b .before .before .before .args .bytes .now) (b .loop-test .taken) in
     let t = sym (c .before .before .before .before .admits-pair .ensures) ∙ not-false _ (c .before .before .before .if1 .left) in
-    (search needs, pairs-next (rw e at (l .inv .1)) t (c .before .only .ensures) (c .union .ensures))
+    (search needs, entries-next _ _ _ _ _ (rw e at (l .inv .1)) t (pair-stored _ _ _ _ (c .before .only .ensures) (c .union .ensures)))
 
 returns-2 : tie.Need-returns-2 Inv-loop μ-loop
 returns-2 c =
     let l = c .before .loop in
-    pairs-done (rw (no-entries 1 (l .place) (l .left) (c .before .before .before .args .bytes .now) (c .loop-test .left)) at (l .inv .1))
+    entries-done _ _ _ (rw (no-entries 1 (l .place) (l .left) (c .before .before .before .args .bytes .now) (c .loop-test .left)) at (l .inv .1)) (pair-none _)
 
 pub read-pairs-spec : {M : Type 1} → statement M
 read-pairs-spec =

@@ -6,20 +6,21 @@ use native.Mathlib.Omega.{arith}
 use mathlib.Core.Path.{sym, _∙_}
 use Prim.Native.Nat.{_+_, _*_, _≤_, _<_}
 use lib.ListN.{length, getD}
-use Rattle.seats.specs.Images.{entries-at}
-use Rattle.seats.proofs.EntryReading.{first-entry, no-entries, TableReading, table-starts, table-next, table-refused, table-done, key-lt}
+use Rattle.seats.specs.Images.{Entry, entries-at}
+use Rattle.seats.specs.ImageWork.{numbered, stored-keys}
+use Rattle.seats.proofs.EntryReading.{first-entry, no-entries, EntriesLeft, entries-all, entries-next, entries-refused, entries-done, key-lt, key-none, key-stored}
 use Rattle.seats.proofs.loading.read_table.Statement.{statement}
 use Rattle.seats.proofs.loading.read_table.Tie as tie
 
 abbrev Inv-loop : tie.InvT-loop
 Inv-loop bytes at count low least allowed table₀ set₀ floor₀ place₀ left₀ table set floor place left =
-    (place + 9 * left ≤ length bytes) × TableReading low least allowed table₀ (entries-at 8 at count bytes) set floor table (entries-at 8 place left bytes)
+    (place + 9 * left ≤ length bytes) × EntriesLeft Entry.key (numbered least allowed) stored-keys low (entries-at 8 at count bytes) (0, table₀) floor (set, table) (entries-at 8 place left bytes)
 
 abbrev μ-loop : tie.MeasureT-loop
 μ-loop bytes at count low least allowed table₀ set₀ floor₀ place₀ left₀ table set floor place left = left
 
 loop-holds : tie.Need-loop-holds Inv-loop μ-loop
-loop-holds c = (search needs, table-starts _ _ _ _ _)
+loop-holds c = (search needs, entries-all _ _ _ _ _ _)
 
 shared-slice-read-key : tie.Need-shared-slice-read-key Inv-loop μ-loop
 shared-slice-read-key c = search needs
@@ -42,7 +43,7 @@ returns c =
     let b = c .before .before .before .before in
     let l = b .before .loop in
     let e = first-entry 8 (l .place) (l .left) (b .before .before .before .args .bytes .now) (b .loop-test .taken) (c .before .before .word .ensures) in
-    table-refused (rw e at (l .inv .1)) (sym (c .before .admits .ensures) ∙ not-true _ (c .if1 .taken))
+    entries-refused _ _ _ _ _ (rw e at (l .inv .1)) (sym (c .before .admits .ensures) ∙ not-true _ (c .if1 .taken))
 
 cast-k : tie.Need-cast-k Inv-loop μ-loop
 cast-k c = let k = key-small c in omega arith
@@ -77,12 +78,12 @@ loop-again c =
     let l = b .before .loop in
     let e = first-entry 8 (l .place) (l .left) (b .before .before .before .args .bytes .now) (b .loop-test .taken) (c .before .before .before .before .word .ensures) in
     let t = sym (c .before .before .before .admits .ensures) ∙ not-false _ (c .before .before .if1 .left) in
-    (search needs, table-next (rw e at (l .inv .1)) t (c .before .only .ensures) (c .union .ensures))
+    (search needs, entries-next _ _ _ _ _ (rw e at (l .inv .1)) t (key-stored _ _ _ _ _ (c .before .only .ensures) (c .union .ensures)))
 
 returns-2 : tie.Need-returns-2 Inv-loop μ-loop
 returns-2 c =
     let l = c .before .loop in
-    table-done (rw (no-entries 8 (l .place) (l .left) (c .before .before .before .args .bytes .now) (c .loop-test .left)) at (l .inv .1))
+    entries-done _ _ _ (rw (no-entries 8 (l .place) (l .left) (c .before .before .before .args .bytes .now) (c .loop-test .left)) at (l .inv .1)) (key-none _)
 
 pub read-table-spec : {M : Type 1} → statement M
 read-table-spec =

@@ -6,7 +6,8 @@ use mathlib.Core.Path.{sym, ap, _∙_}
 use Rattle.sets.specs.Sets.{member}
 use Rattle.graph.specs.Refusing.{verdict}
 use Rattle.seats.specs.Seats.{may-use}
-use Rattle.seats.specs.Calls.{answered, checks, reply, settle, perform}
+use Rattle.seats.specs.Calls.{answered, checks, reply, judged, settle, perform}
+use Rattle.lists.specs.Settling as settling
 use Rattle.seats.specs.Reading.{read-answer}
 use Rattle.seats.proofs.Asking.{steps-ask}
 use Rattle.seats.proofs.seating.ask.Statement.{statement}
@@ -16,7 +17,7 @@ refusal-requires : tie.Need-refusal-requires
 refusal-requires c κs = tt
 
 returns : tie.Need-returns
-unfolding perform checks verdict settle
+unfolding perform checks verdict settle judged settling.settle
 returns c R C =
     c .refusal .ensures ∙ sym (steps-ask _ _ _ (search needs) ∙ rw (le-leb 64 _ (c .before .if1 .taken)))
 
@@ -24,7 +25,7 @@ refusal-requires-2 : tie.Need-refusal-requires-2
 refusal-requires-2 c κs = tt
 
 returns-2 : tie.Need-returns-2
-unfolding perform checks verdict settle
+unfolding perform checks verdict settle judged settling.settle
 returns-2 c R C =
     c .refusal2 .ensures ∙ sym (steps-ask _ _ _ (search needs) ∙ rw (lt-leb 64 _ (c .before .before .before .if1 .left), le-leb 64 _ (c .before .if2 .taken)))
 
@@ -35,7 +36,7 @@ member-requires : tie.Need-member-requires
 member-requires c κs = tt
 
 returns-3 : tie.Need-returns-3
-unfolding perform checks verdict settle reply may-use read-answer
+unfolding perform checks verdict settle judged settling.settle reply may-use read-answer
 returns-3 c R C =
     ap answered (c .member .ensures ∙ ap (member _) (c .before .held-by .ensures R C))
     ∙ sym (steps-ask _ _ _ (search needs) ∙ rw (lt-leb 64 _ (c .before .before .before .before .if1 .left), lt-leb 64 _ (c .before .before .if2 .left)))
