@@ -16,7 +16,8 @@ use Rattle.graph.specs.declared.Verdict.the-variants.{the-data, Passed, Refused
 use Rattle.graph.proofs.Refusals.{parts, passed-passes, verdict-passes}
 use Rattle.graph.proofs.Judging.{refused-first, passed-first}
 use Rattle.seats.specs.Seats.{State}
-use Rattle.seats.specs.Calls.{change, Answer, accepted, refused, seat-checks, checks, after, settle}
+use Rattle.lists.specs.Settling as settling
+use Rattle.seats.specs.Calls.{change, Answer, accepted, refused, seat-checks, checks, after, judged, settle}
 use Rattle.seats.specs.Reading.{read-answer}
 use Rattle.seats.specs.Working.{removal-checks, after-checks}
 use Rattle.seats.specs.declared.Answer.the-variants as answers
@@ -87,16 +88,16 @@ module _ (s : State) (c : Change) where
 -- A verdict that refuses leaves the state m, and one that passes has h.
 module _ {v : the-data} {w : Verdict} (m h : State) (e : read-verdict v ≡ w) where
   pub settled-refused : {r : Refusal} → v ≡ Refused r → (refused (r .number) (r .place), m) ≡ settle w accepted m h
-  unfolding settle read-verdict
+  unfolding settle judged settling.settle read-verdict
   settled-refused d = ap (λ (x : Verdict). settle x accepted m h) (sym (ap read-verdict d) ∙ e)
 
   pub settled-passed : v ≡ Passed → {k : State} → k ≡ h → (accepted, k) ≡ settle w accepted m h
-  unfolding settle read-verdict
+  unfolding settle judged settling.settle read-verdict
   settled-passed d p = ap (λ (k : State). (accepted, k)) p ∙ ap (λ (x : Verdict). settle x accepted m h) (sym (ap read-verdict d) ∙ e)
 
 -- An accepted change has its own state, whatever a refusal would leave.
 pub accepted-taken : (v : Verdict) (m h s : State) {a : answers.the-data} {t : State} → (read-answer a, t) ≡ settle v accepted m h → a ≡ answers.Accepted → (read-answer a, t) ≡ settle v accepted s h
-unfolding settle read-answer
+unfolding settle judged settling.settle read-answer
 accepted-taken passed m h s e d = e
 accepted-taken (refusing.refused n p) m h s {a} e d =
     let x : accepted ≡ refused n p = sym (ap read-answer d) ∙ ap (λ (z : Answer × State). z .0) e in
@@ -105,7 +106,7 @@ accepted-taken (refusing.refused n p) m h s {a} e d =
 
 -- Any other answer is a refusal, which leaves the state.
 pub other-taken : (v : Verdict) (m h s : State) (a : answers.the-data) {t : State} → (read-answer a, t) ≡ settle v accepted m h → OneOf (1 ∷ 2 ∷ []) (tagOf answer-enum.the-type a) → (read-answer a, s) ≡ settle v accepted s h
-unfolding settle read-answer
+unfolding settle judged settling.settle read-answer
 other-taken passed m h s answers.Accepted e o = absurd (miss (1 ∷ 2 ∷ []) 0 tt o)
 other-taken passed m h s (answers.Answered b) e o = let x = ap (λ (z : Answer × State). z .0) e in let z : _≡_ {A = ℕ} 0 1 = cc in absurd (omega arith)
 other-taken passed m h s (answers.Refused r) e o = let x = ap (λ (z : Answer × State). z .0) e in let z : _≡_ {A = ℕ} 0 1 = cc in absurd (omega arith)

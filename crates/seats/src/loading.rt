@@ -184,12 +184,7 @@ fn lacking_role(roles: u64, sets: &[u64]) -> usize
 }
 
 // Whether no condition of refusal 8 holds of a state, tested in their order.
-fn is_sound<'a>(
-    roles: u64,
-    sets: &'a [u64],
-    conflicts: &'a [u64],
-    seats: &'a [u64],
-) -> bool
+fn is_sound<'a>(roles: u64, sets: &'a [u64], conflicts: &'a [u64], seats: &'a [u64]) -> bool
     ensures { λ r. ⌜ verdict (content-checks (state-of roles (now (sets .entry)) (now (conflicts .entry)) (now (seats .entry)))) ≡ cond r passed (refusing.refused 8 0) ⌝ }
 {
     if empty_role(roles, sets) < 64 {

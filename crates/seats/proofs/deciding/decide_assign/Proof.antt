@@ -96,7 +96,7 @@ returns-3 c =
     ∙ sym (refused-by s (assign (g .a .0) (g .b .0)) (sym (refused-first (seat-role-checks (s .graph) (g .a .0) (g .b .0)) (assign-late s (g .a .0) (g .b .0)) (c .before .before .before .before .judge-seat .ensures) told) ∙ ap read-verdict told))
 
 returns-4 : tie.Need-returns-4
-unfolding read-verdict read-answer present checks assigned reply after stored put pair-seat held effective when
+unfolding read-verdict read-answer present checks assigned reply after with-seats stored put pair-seat held effective when
 returns-4 c =
     let g = c .before .before .before .before .before .before .before .before .before .before .before .before .before .before .args in
     let s = state-of (g .roles) (g .sets .now) (g .conflicts .now) (g .seats .now) in

@@ -74,7 +74,7 @@ returns-2 c =
     ∙ sym (refused-by s (unassign (g .a .0) (g .b .0)) (sym (refused-first (seat-role-checks (s .graph) (g .a .0) (g .b .0)) (unassign-late s (g .a .0) (g .b .0)) (c .before .before .before .before .judge-seat .ensures) told) ∙ ap read-verdict told))
 
 returns-3 : tie.Need-returns-3
-unfolding read-verdict read-answer present checks assigned reply after stored take-out when
+unfolding read-verdict read-answer present checks assigned reply after with-seats stored take-out when
 returns-3 c =
     let g = c .before .before .before .before .before .before .before .before .before .before .before .before .args in
     let s = state-of (g .roles) (g .sets .now) (g .conflicts .now) (g .seats .now) in

@@ -1,14 +1,15 @@
 -- `seats::loading::lacking_role` meets its contract: it searches the ordinary roles for one that holds a privilege which MaxRole lacks.
 -- Assumes nothing.
 use borrow.Author.Needs.{needs}
-use mathlib.Core.Bool.{Bool, not}
+use mathlib.Core.Bool.{Bool, not, _&&_}
 use mathlib.Core.List.{List}
-use mathlib.Core.Path.{sym, ap, _∙_}
+use mathlib.Core.Path.{_≡_, sym, ap, _∙_}
 use Prim.Native.Nat.{ℕ}
 use Rattle.sets.specs.Sets.{difference, included}
+use Rattle.sets.specs.Counting.{lowest}
 use Rattle.sets.proofs.Laws.{difference-lt}
 use Rattle.graph.specs.Tables.{at}
-use Rattle.graph.specs.Graph.{role-count, effective}
+use Rattle.graph.specs.Graph.{role-count, ordinary, effective}
 use Rattle.graph.specs.Reading.{read-set, sets-in, drawn-from}
 use Rattle.graph.proofs.Searches.{Search, starts, hit, goes-on, falls, miss, among-ordinary}
 use Rattle.seats.proofs.loading.lacking_role.Statement.{statement}
@@ -23,6 +24,10 @@ Inv-loop roles sets top rest₀ rest = Search role-count (lacks (read-set top) (
 
 abbrev μ-loop : tie.MeasureT-loop
 μ-loop roles sets top rest₀ rest = rest
+
+-- What the test says of the entry that was read.
+tested : (top : ℕ) {s t : ℕ} {x y : Bool} → s ≡ t → x ≡ included s top → not x ≡ y → not (included t top) ≡ y
+tested top e f z = ap (λ (u : ℕ). not (included u top)) (sym e) ∙ ap not (sym f) ∙ z
 
 entry-requires : tie.Need-entry-requires Inv-loop μ-loop
 entry-requires c κs = tt
@@ -46,11 +51,14 @@ included-requires : tie.Need-included-requires Inv-loop μ-loop
 included-requires c κs = search needs
 
 returns : tie.Need-returns Inv-loop μ-loop
-unfolding at effective
+unfolding effective
 returns c =
     let b = c .before .before .before in
-    hit (b .before .before .loop .inv) (b .before .loop-test .taken) (b .lowest-member .ensures) (sym (ap not (c .before .included .ensures)) ∙ c .if1 .taken)
-    ∙ among-ordinary _ _
+    let l = b .before .before in
+    let a = l .before .before .before .before .args in
+    let g = drawn-from (a .roles) (a .sets .now) in
+    hit (l .loop .inv) (b .before .loop-test .taken) (b .lowest-member .ensures) (tested _ (c .before .before .entry2 .ensures) (c .before .included .ensures) (c .if1 .taken))
+    ∙ among-ordinary g _ ∙ ap (λ (top : ℕ). lowest role-count (λ r. ordinary g r && lacks top (g .sets) r)) (l .before .before .entry .ensures)
 
 without-lowest-requires : tie.Need-without-lowest-requires Inv-loop μ-loop
 without-lowest-requires c κs = search needs
@@ -61,15 +69,19 @@ loop-less c =
     falls (b .before .before .loop .inv) (b .before .loop-test .taken) (b .lowest-member .ensures) (c .without-lowest .ensures)
 
 loop-again : tie.Need-loop-again Inv-loop μ-loop
-unfolding at
 loop-again c =
     let b = c .before .before .before .before in
     goes-on (b .before .before .loop .inv) (b .before .loop-test .taken) (b .lowest-member .ensures) (c .without-lowest .ensures)
-    (sym (ap not (c .before .before .included .ensures)) ∙ c .before .if1 .left)
+    (tested _ (c .before .before .before .entry2 .ensures) (c .before .before .included .ensures) (c .before .if1 .left))
 
 returns-2 : tie.Need-returns-2 Inv-loop μ-loop
-unfolding at effective
-returns-2 c = miss (c .before .loop .inv) (c .loop-test .left) ∙ among-ordinary _ _
+unfolding effective
+returns-2 c =
+    let l = c .before in
+    let a = l .before .before .before .before .args in
+    let g = drawn-from (a .roles) (a .sets .now) in
+    miss (l .loop .inv) (c .loop-test .left) ∙ among-ordinary g _
+    ∙ ap (λ (top : ℕ). lowest role-count (λ r. ordinary g r && lacks top (g .sets) r)) (l .before .before .entry .ensures)
 
 pub lacking-role-spec : {M : Type 1} → statement M
 lacking-role-spec =

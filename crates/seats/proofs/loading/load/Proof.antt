@@ -81,7 +81,7 @@ refuse-requires-5 c κs = search needs
 
 returns-5 : tie.Need-returns-5
 returns-5 c =
-    let t = c .before .before .before .before .before .before .before .before in
+    let t = c .before .before .before .before .before .before .before .before .before .before .before in
     let r = t .before .before in
     refused-load _ _ 8 (placed (r .before) ∙ state-refused (r .read-contents .ensures) (not-false _ (t .if4 .left)) (c .before .before .is-sound .result) (c .before .before .is-sound .ensures) (not-true _ (c .before .if5 .taken)))
     (c .refuse5 .ensures .0) (c .refuse5 .ensures .1)
@@ -89,7 +89,7 @@ returns-5 c =
 returns-6 : tie.Need-returns-6
 unfolding read-answer
 returns-6 c =
-    let t = c .before .before .before .before .before .before .before in
+    let t = c .before .before .before .before .before .before .before .before .before .before in
     let r = t .before .before in
     accepted-load _ _ _ (placed (r .before) ∙ state-loaded (r .read-contents .ensures) (not-false _ (t .if4 .left)) (c .before .is-sound .result) (c .before .is-sound .ensures) (not-false _ (c .if5 .left)))
 

@@ -36,8 +36,8 @@ cast-put-entry c = let l = key-lt (c .before) in search needs
 roles-at-requires : tie.Need-roles-at-requires Inv-loop μ-loop
 roles-at-requires c κs = search needs
 
-put-roles-at-requires : tie.Need-put-roles-at-requires Inv-loop μ-loop
-put-roles-at-requires c κs =
+put-entry-requires : tie.Need-put-entry-requires Inv-loop μ-loop
+put-entry-requires c κs =
     let b = c .before .before in
     let s = b .before .before .before .before .before in
     member-room 64 8 (valued (at (s .args .table .now))) (b .before .before .loop .inv .0) (b .before .loop-test .taken) (b .lowest-member .ensures) (b .before .before .loop .inv .1) (s .pre)
@@ -76,7 +76,7 @@ put-table-spec =
     cast-i
     cast-put-entry
     roles-at-requires
-    put-roles-at-requires
+    put-entry-requires
     without-lowest-requires
     loop-less
     loop-again

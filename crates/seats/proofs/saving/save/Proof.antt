@@ -148,6 +148,7 @@ put-number-requires c κs =
     omega arith
 
 put-table-requires : tie.Need-put-table-requires
+unfolding sets-in
 put-table-requires c κs = let b = c .before .before .before in piece-room (roles-part (top-from b)) _ (top-written b) (fits (top-from b))
 
 put-conflicts-requires : tie.Need-put-conflicts-requires
