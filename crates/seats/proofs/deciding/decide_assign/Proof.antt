@@ -10,16 +10,20 @@ use lib.ListN.{set}
 use Rattle.sets.specs.Sets.{member, single, union, when}
 use Rattle.graph.specs.Graph.{effective, present}
 use Rattle.graph.specs.Tables.{put}
-use Rattle.graph.specs.Refusing.{refuse, refuse-lowest}
+use Rattle.graph.specs.Refusing.{Check, refuse, refuse-lowest}
 use Rattle.graph.specs.Reading.{read-verdict}
 use Rattle.graph.proofs.Judging.{stops, moves-on, ends, refused-first, passed-first, place-found, place-none}
-use Rattle.seats.specs.Seats.{seat-count, assigned, held, pair-seat}
+use Rattle.seats.specs.Seats.{State, seat-count, assigned, held, pair-seat}
 use Rattle.seats.specs.Calls.{Answer, seat-role-checks, accepted, refused, assign, checks, after, reply, with-seats}
 use Rattle.seats.specs.Reading.{state-of, read-answer}
 use Rattle.seats.proofs.Settling.{refused-by, passed-by}
 use Rattle.seats.proofs.Requests.{none-stored, entry-stored, seat-numbers}
 use Rattle.seats.proofs.deciding.decide_assign.Statement.{statement}
 use Rattle.seats.proofs.deciding.decide_assign.Tie as tie
+
+-- The checks behind those of the seat's and the role's numbers.
+abbrev later : State → ℕ → ℕ → List Check
+later s a b = refuse 22 (assigned s a b) a ∷ refuse-lowest 30 seat-count (pair-seat (after s (assign a b))) ∷ []
 
 judge-seat-requires : tie.Need-judge-seat-requires
 judge-seat-requires c κs = tt
@@ -61,7 +65,7 @@ returns c =
     let j = m .before .before .before .before .before .before .judge-seat .ensures in
     c .unchanged2 .ensures s
     ∙ ap (λ (x : Answer). (x, s)) (c .before .refusal .ensures)
-    ∙ sym (refused-by s (assign (g .a .0) (g .b .0)) (passed-first (seat-role-checks (s .graph) (g .a .0) (g .b .0)) (refuse 22 (assigned s (g .a .0) (g .b .0)) (g .a .0) ∷ refuse-lowest 30 seat-count (pair-seat (after s (assign (g .a .0) (g .b .0)))) ∷ []) j told ∙ stops _ _ (ap (member _) (sym (m .before .entry .ensures)) ∙ sym (m .member .ensures) ∙ c .before .before .if1 .taken)))
+    ∙ sym (refused-by s (assign (g .a .0) (g .b .0)) (passed-first (seat-role-checks (s .graph) (g .a .0) (g .b .0)) (later s (g .a .0) (g .b .0)) j told ∙ stops _ _ (ap (member _) (sym (m .before .entry .ensures)) ∙ sym (m .member .ensures) ∙ c .before .before .if1 .taken)))
 
 pair-seat-after-requires : tie.Need-pair-seat-after-requires
 pair-seat-after-requires c κs = tt
@@ -83,7 +87,7 @@ returns-2 c =
     let j = m .before .before .before .before .before .before .judge-seat .ensures in
     c .unchanged3 .ensures s
     ∙ ap (λ (x : Answer). (x, s)) (c .before .refusal2 .ensures ∙ ap (refused 30) (q .pair-seat-after .ensures))
-    ∙ sym (refused-by s (assign (g .a .0) (g .b .0)) (passed-first (seat-role-checks (s .graph) (g .a .0) (g .b .0)) (refuse 22 (assigned s (g .a .0) (g .b .0)) (g .a .0) ∷ refuse-lowest 30 seat-count (pair-seat (after s (assign (g .a .0) (g .b .0)))) ∷ []) j told ∙ moves-on _ _ (ap (member _) (sym (m .before .entry .ensures)) ∙ sym (m .member .ensures) ∙ q .before .if1 .left) ∙ stops _ _ (place-found _ (q .pair-seat-after .ensures) (c .before .before .if2 .taken))))
+    ∙ sym (refused-by s (assign (g .a .0) (g .b .0)) (passed-first (seat-role-checks (s .graph) (g .a .0) (g .b .0)) (later s (g .a .0) (g .b .0)) j told ∙ moves-on _ _ (ap (member _) (sym (m .before .entry .ensures)) ∙ sym (m .member .ensures) ∙ q .before .if1 .left) ∙ stops _ _ (place-found _ (q .pair-seat-after .ensures) (c .before .before .if2 .taken))))
 
 insert-requires : tie.Need-insert-requires
 insert-requires c κs = tt
@@ -98,7 +102,7 @@ returns-3 c =
     let s = state-of (g .roles) (g .sets .now) (g .conflicts .now) (g .seats .now) in
     let told = c .before .before .verdict .given .1 in
     c .unchanged .ensures s
-    ∙ sym (refused-by s (assign (g .a .0) (g .b .0)) (sym (refused-first (seat-role-checks (s .graph) (g .a .0) (g .b .0)) (refuse 22 (assigned s (g .a .0) (g .b .0)) (g .a .0) ∷ refuse-lowest 30 seat-count (pair-seat (after s (assign (g .a .0) (g .b .0)))) ∷ []) (c .before .before .before .before .judge-seat .ensures) told) ∙ ap read-verdict told))
+    ∙ sym (refused-by s (assign (g .a .0) (g .b .0)) (sym (refused-first (seat-role-checks (s .graph) (g .a .0) (g .b .0)) (later s (g .a .0) (g .b .0)) (c .before .before .before .before .judge-seat .ensures) told) ∙ ap read-verdict told))
 
 returns-4 : tie.Need-returns-4
 unfolding read-verdict read-answer present checks assigned reply after with-seats put pair-seat held effective when
@@ -113,7 +117,7 @@ returns-4 c =
     ap₂ (λ (C W : List ℕ). (accepted, state-of (g .roles) (g .sets .now) C W)) (none-stored (g .conflicts .now) _ (c .none .ensures))
     (entry-stored (g .seats .now) _ (n .0)
     ∙ ap (set (g .seats .now) (g .a .0)) (c .before .insert .ensures ∙ ap₂ union (m .before .entry .ensures) (ap (λ (t : Bool). when t (single (g .b .0))) (lt-ltb _ _ (n .1)))))
-    ∙ sym (passed-by s (assign (g .a .0) (g .b .0)) (passed-first (seat-role-checks (s .graph) (g .a .0) (g .b .0)) (refuse 22 (assigned s (g .a .0) (g .b .0)) (g .a .0) ∷ refuse-lowest 30 seat-count (pair-seat (after s (assign (g .a .0) (g .b .0)))) ∷ []) j told ∙ moves-on _ _ (ap (member _) (sym (m .before .entry .ensures)) ∙ sym (m .member .ensures) ∙ q .before .if1 .left) ∙ moves-on _ _ (place-none _ (q .pair-seat-after .ensures) (c .before .before .if2 .left)) ∙ sym ends))
+    ∙ sym (passed-by s (assign (g .a .0) (g .b .0)) (passed-first (seat-role-checks (s .graph) (g .a .0) (g .b .0)) (later s (g .a .0) (g .b .0)) j told ∙ moves-on _ _ (ap (member _) (sym (m .before .entry .ensures)) ∙ sym (m .member .ensures) ∙ q .before .if1 .left) ∙ moves-on _ _ (place-none _ (q .pair-seat-after .ensures) (c .before .before .if2 .left)) ∙ sym ends))
 
 pub decide-assign-spec : {M : Type 1} → statement M
 decide-assign-spec =

@@ -10,16 +10,20 @@ use lib.ListN.{set}
 use Rattle.sets.specs.Sets.{member, single, difference, when}
 use Rattle.graph.specs.Graph.{present}
 use Rattle.graph.specs.Tables.{take-out}
-use Rattle.graph.specs.Refusing.{refuse}
+use Rattle.graph.specs.Refusing.{Check, refuse}
 use Rattle.graph.specs.Reading.{read-verdict}
 use Rattle.graph.proofs.Judging.{stops, moves-on, ends, refused-first, passed-first}
-use Rattle.seats.specs.Seats.{assigned}
+use Rattle.seats.specs.Seats.{State, assigned}
 use Rattle.seats.specs.Calls.{Answer, seat-role-checks, accepted, unassign, checks, after, reply, with-seats}
 use Rattle.seats.specs.Reading.{state-of, read-answer}
 use Rattle.seats.proofs.Settling.{refused-by, passed-by}
 use Rattle.seats.proofs.Requests.{none-stored, entry-stored, seat-numbers}
 use Rattle.seats.proofs.deciding.decide_unassign.Statement.{statement}
 use Rattle.seats.proofs.deciding.decide_unassign.Tie as tie
+
+-- The check behind those of the seat's and the role's numbers.
+abbrev later : State → ℕ → ℕ → List Check
+later s a b = refuse 23 (not (assigned s a b)) a ∷ []
 
 judge-seat-requires : tie.Need-judge-seat-requires
 judge-seat-requires c κs = tt
@@ -61,7 +65,7 @@ returns c =
     let j = m .before .before .before .before .before .before .judge-seat .ensures in
     c .unchanged2 .ensures s
     ∙ ap (λ (x : Answer). (x, s)) (c .before .refusal .ensures)
-    ∙ sym (refused-by s (unassign (g .a .0) (g .b .0)) (passed-first (seat-role-checks (s .graph) (g .a .0) (g .b .0)) (refuse 23 (not (assigned s (g .a .0) (g .b .0))) (g .a .0) ∷ []) j told ∙ stops _ _ (ap not (ap (member _) (sym (m .before .entry .ensures)) ∙ sym (m .member .ensures) ∙ not-true _ (c .before .before .if1 .taken)))))
+    ∙ sym (refused-by s (unassign (g .a .0) (g .b .0)) (passed-first (seat-role-checks (s .graph) (g .a .0) (g .b .0)) (later s (g .a .0) (g .b .0)) j told ∙ stops _ _ (ap not (ap (member _) (sym (m .before .entry .ensures)) ∙ sym (m .member .ensures) ∙ not-true _ (c .before .before .if1 .taken)))))
 
 remove-requires : tie.Need-remove-requires
 remove-requires c κs = tt
@@ -76,7 +80,7 @@ returns-2 c =
     let s = state-of (g .roles) (g .sets .now) (g .conflicts .now) (g .seats .now) in
     let told = c .before .before .verdict .given .1 in
     c .unchanged .ensures s
-    ∙ sym (refused-by s (unassign (g .a .0) (g .b .0)) (sym (refused-first (seat-role-checks (s .graph) (g .a .0) (g .b .0)) (refuse 23 (not (assigned s (g .a .0) (g .b .0))) (g .a .0) ∷ []) (c .before .before .before .before .judge-seat .ensures) told) ∙ ap read-verdict told))
+    ∙ sym (refused-by s (unassign (g .a .0) (g .b .0)) (sym (refused-first (seat-role-checks (s .graph) (g .a .0) (g .b .0)) (later s (g .a .0) (g .b .0)) (c .before .before .before .before .judge-seat .ensures) told) ∙ ap read-verdict told))
 
 returns-3 : tie.Need-returns-3
 unfolding read-verdict read-answer present checks assigned reply after with-seats take-out when
@@ -90,7 +94,7 @@ returns-3 c =
     ap₂ (λ (C W : List ℕ). (accepted, state-of (g .roles) (g .sets .now) C W)) (none-stored (g .conflicts .now) _ (c .none .ensures))
     (entry-stored (g .seats .now) _ (n .0)
     ∙ ap (set (g .seats .now) (g .a .0)) (c .before .remove .ensures ∙ ap₂ difference (m .before .entry .ensures) (ap (λ (t : Bool). when t (single (g .b .0))) (lt-ltb _ _ (n .1)))))
-    ∙ sym (passed-by s (unassign (g .a .0) (g .b .0)) (passed-first (seat-role-checks (s .graph) (g .a .0) (g .b .0)) (refuse 23 (not (assigned s (g .a .0) (g .b .0))) (g .a .0) ∷ []) j told ∙ moves-on _ _ (ap not (ap (member _) (sym (m .before .entry .ensures)) ∙ sym (m .member .ensures) ∙ not-false _ (c .before .before .if1 .left))) ∙ sym ends))
+    ∙ sym (passed-by s (unassign (g .a .0) (g .b .0)) (passed-first (seat-role-checks (s .graph) (g .a .0) (g .b .0)) (later s (g .a .0) (g .b .0)) j told ∙ moves-on _ _ (ap not (ap (member _) (sym (m .before .entry .ensures)) ∙ sym (m .member .ensures) ∙ not-false _ (c .before .before .if1 .left))) ∙ sym ends))
 
 pub decide-unassign-spec : {M : Type 1} → statement M
 decide-unassign-spec =
