@@ -1,20 +1,19 @@
 -- A block as the words of its state and the words behind them: what writing tables and storing entries leaves.
 -- Assumes nothing.
 use mathlib.Core.Path.{_≡_, refl, sym, ap, _∙_}
-use mathlib.Core.Bool.{true, false, cond}
 use mathlib.Core.Logic.{inl, inr}
 use mathlib.Core.List.{List, [], _∷_, _++_, append-assoc}
 use Prim.Native.Nat.{ℕ, suc, _+_, _<_, _≤_}
 use native.Mathlib.Nat.{zero-add, suc-add}
 use native.Mathlib.Omega.{arith}
 use borrow.Author.Tests.{ltb-true}
-use lib.ListN.{length, getD, drop, set, length-append, length-drop, length-set, take-append-drop}
-use lib.Seq.{length-take-le, drop-cons, drop-drop, set-append-left}
-use lib.Dec.{ltb}
+use lib.ListN.{length, getD, drop, set, length-append, length-drop, take-append-drop}
+use lib.Seq.{length-take-le, drop-cons, drop-drop, set-append-left, set-out}
+use lib.Dec.{ltb, nltb→le, not-T}
 use Rattle.sets.proofs.Tests.{passes, fails, decide}
-use Rattle.graph.specs.Tables.{stored}
+use Rattle.graph.specs.Reading.{sets-in}
 use Rattle.seats.specs.Seats.{State}
-use Rattle.seats.specs.Reading.{state-of}
+use Rattle.seats.specs.Calls.{with-graph, with-conflicts, with-seats}
 use Rattle.seats.specs.Written.{Written}
 use Rattle.seats.proofs.Written.{and-then, one-written, written-front}
 use Rattle.boundary.specs.Block.{table-at, state-in, words-of, holding}
@@ -73,44 +72,43 @@ laid W l = drop-cons W 0 0 l ∙ ap (λ (k : List ℕ). getD W 0 0 ∷ k) (next-
 
 -- A block holds its own state.
 pub holds-own : (W : List ℕ) → 0 < length W → holding (state-in W) W ≡ W
-unfolding holding words-of front
+unfolding holding words-of front sets-in
 holds-own W l = simp append-assoc (sym (laid W l))
 
 -- ---- an entry stored
-
-length-stored : (T : List ℕ) (n x : ℕ) → length (stored T n x) ≡ length T
-unfolding stored
-length-stored T n x = elim (ltb n 64) as (λ t. length (cond t (set T n x) T) ≡ length T) [
-  | true ↦ length-set T n x
-  | false ↦ refl
-]
 
 set-behind : (P X : List ℕ) (n a : ℕ) → set (P ++ X) (length P + n) a ≡ P ++ set X n a
 set-behind [] X n a = ap (λ (k : ℕ). set X k a) (zero-add n)
 set-behind (p ∷ P) X n a = ap (λ (k : ℕ). set (p ∷ (P ++ X)) k a) (suc-add (length P) n) ∙ ap (λ (k : List ℕ). p ∷ k) (set-behind P X n a)
 
 -- An entry of a table stored in the block is the table's entry stored.
-stored-in : (P T Q : List ℕ) (i n x : ℕ) → length P ≡ i → length T ≡ 64 → stored-at (P ++ (T ++ Q)) i n x ≡ P ++ (stored T n x ++ Q)
-unfolding stored stored-at
+stored-in : (P T Q : List ℕ) (i n x : ℕ) → length P ≡ i → length T ≡ 64 → stored-at (P ++ (T ++ Q)) i n x ≡ P ++ (set T n x ++ Q)
+unfolding stored-at
 stored-in P T Q i n x l k = elim (decide (ltb n 64)) [
   | inl t ↦ let h : n < length T = omega (arith, ltb-true n 64 (passes (ltb n 64) t)) in
       rw (passes (ltb n 64) t, ← l, set-behind P (T ++ Q) n x, set-append-left T Q n x h)
-  | inr f ↦ rw (fails (ltb n 64) f)
+  | inr f ↦ let h : length T ≤ n = omega (arith, nltb→le n 64 (not-T (ltb n 64) f)) in rw (fails (ltb n 64) f, set-out T n x h)
 ]
 
--- An entry of the conflicts and one of the seats stored.
-pub entries-stored : (W : List ℕ) (n x m y : ℕ) → 193 ≤ length W
-    → stored-at (stored-at W 65 n x) 129 m y ≡ holding (state-of (getD W 0 0) (table-at W 1) (stored (table-at W 65) n x) (stored (table-at W 129) m y)) W
-unfolding holding words-of front
-entries-stored W n x m y l =
+-- The conflicts of a privilege stored.
+pub conflicts-stored : (W : List ℕ) (n x : ℕ) → 193 ≤ length W → stored-at W 65 n x ≡ holding (with-conflicts (state-in W) (set (state-in W .graph .conflicts) n x)) W
+unfolding holding words-of front with-graph with-conflicts sets-in
+conflicts-stored W n x l =
     let C = table-at W 65 in
     let S = table-at W 129 in
     let D = drop 193 W in
-    let a : length (front W) ≡ 65 = ap suc (table-whole W 1 (omega arith)) in
-    let p = stored-in (front W) C (S ++ D) 65 n x a (table-whole W 65 (omega arith)) in
-    let b : length (front W ++ stored C n x) ≡ 129 = length-append (front W) (stored C n x) ∙ rw (a, length-stored C n x, table-whole W 65 (omega arith)) in
-    let q = stored-in (front W ++ stored C n x) S D 129 m y b (table-whole W 129 (omega arith)) in
-    ap (λ (k : List ℕ). stored-at (stored-at k 65 n x) 129 m y) (laid W (omega arith))
-    ∙ ap (λ (k : List ℕ). stored-at k 129 m y) (p ∙ sym (append-assoc (front W) (stored C n x) (S ++ D)))
-    ∙ q
+    ap (λ (k : List ℕ). stored-at k 65 n x) (laid W (omega arith))
+    ∙ stored-in (front W) C (S ++ D) 65 n x (ap suc (table-whole W 1 (omega arith))) (table-whole W 65 (omega arith))
+    ∙ simp append-assoc
+
+-- The roles of a seat stored.
+pub roles-stored : (W : List ℕ) (n x : ℕ) → 193 ≤ length W → stored-at W 129 n x ≡ holding (with-seats (state-in W) (set (state-in W .seats) n x)) W
+unfolding holding words-of front with-seats sets-in
+roles-stored W n x l =
+    let C = table-at W 65 in
+    let S = table-at W 129 in
+    let D = drop 193 W in
+    let b : length (front W ++ C) ≡ 129 = length-append (front W) C ∙ rw (ap suc (table-whole W 1 (omega arith)), table-whole W 65 (omega arith)) in
+    ap (λ (k : List ℕ). stored-at k 129 n x) (laid W (omega arith) ∙ sym (append-assoc (front W) C (S ++ D)))
+    ∙ stored-in (front W ++ C) S D 129 n x b (table-whole W 129 (omega arith))
     ∙ simp append-assoc

@@ -6,7 +6,6 @@ ghost use Rattle.seats.specs.Written.{Written};
 ghost use Rattle.seats.specs.Reading.{read-state};
 ghost use Rattle.boundary.specs.Block.{table-length, block-length, table-at, state-in, holding};
 ghost use Rattle.boundary.specs.Working.{stored-at};
-use graph::Entry;
 use seats::State;
 
 // Where the tables of sets, conflicts and seats start.
@@ -72,13 +71,12 @@ pub(crate) fn put_state(block: &mut [u64], state: State)
     put_table(block, SEATS, &seats);
 }
 
-// Stores an entry, if there is one, in the table that starts at a word.
-pub(crate) fn store_at(block: &mut [u64], at: usize, entry: Entry)
+// Stores entry n of the table that starts at a word; beyond the table's end nothing.
+pub(crate) fn store_at(block: &mut [u64], at: usize, n: usize, word: u64)
     requires { ⌜ at + 64 ≤ length (now block) ⌝ }
-    ensures { λ _. ⌜ now (block .exit) ≡ stored-at (now (block .entry)) at (entry .number) (entry .set) ⌝ }
+    ensures { λ _. ⌜ now (block .exit) ≡ stored-at (now (block .entry)) at n word ⌝ }
 {
-    let n = entry.number;
     if n < 64 {
-        block[at + n] = entry.set;
+        block[at + n] = word;
     }
 }

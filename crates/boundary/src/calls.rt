@@ -25,6 +25,7 @@ use seats::Decision;
 use seats::Decoded;
 use seats::Request;
 use seats::State;
+use seats::Stored;
 use seats::Taken;
 use seats::deciding;
 use seats::records;
@@ -70,11 +71,18 @@ fn take_request(block: &mut [u64], request: Request) -> u32
 {
     let decision = decided(block, request);
     let answer = decision.answer;
-    let conflict = decision.conflict;
-    let seat = decision.seat;
-    store_at(block, CONFLICTS, conflict);
-    store_at(block, SEATS, seat);
-    code(answer)
+    let stored = decision.stored;
+    match stored {
+        Stored::Nothing => code(answer),
+        Stored::ConflictsOf(entry) => {
+            store_at(block, CONFLICTS, entry.lower, entry.higher.word);
+            code(answer)
+        }
+        Stored::RolesOf(entry) => {
+            store_at(block, SEATS, entry.seat, entry.roles);
+            code(answer)
+        }
+    }
 }
 
 // What a change comes to, decided on parts of the block; where it is accepted, the sets after it go into `next`.

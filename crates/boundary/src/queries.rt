@@ -62,7 +62,7 @@ pub extern "C" fn keeper_effective(block: &[u64], role: u8) -> u64
         return 0;
     }
     let sets = &block[SETS..CONFLICTS];
-    entry(sets, role as usize)
+    entry(sets, role as usize).word
 }
 
 // The direct privileges of a role.
@@ -74,7 +74,7 @@ pub extern "C" fn keeper_direct(block: &[u64], role: u8) -> u64
         return 0;
     }
     let sets = &block[SETS..CONFLICTS];
-    drawing::direct_of(block[0], sets, Role(role))
+    drawing::direct_of(block[0], sets, Role(role)).word
 }
 
 // The immediate juniors of a role.
@@ -147,5 +147,5 @@ pub extern "C" fn keeper_seat_holds(block: &[u64], seat: u8) -> u64
     }
     let sets = &block[SETS..CONFLICTS];
     let seats = &block[SEATS..WORDS];
-    seating::held_by(sets, seats, Seat(seat))
+    seating::held_by(sets, seats, Seat(seat)).word
 }
