@@ -19,6 +19,7 @@ use Rattle.graph.specs.Editing.{changed}
 use Rattle.graph.specs.Refusing.{Verdict, passed, verdict}
 use Rattle.graph.specs.Refusing as refusing
 use Rattle.graph.proofs.Tables.{length-table}
+use Rattle.graph.specs.Reading.{sets-in}
 use Rattle.seats.specs.Seats.{State, fresh}
 use Rattle.seats.specs.Calls.{Call, change, declare, lift, assign, unassign, ask, checks, with-graph, with-conflicts, with-seats, after, reply, judged, settle, perform}
 use Rattle.seats.specs.Records.{Decoded, malformed, well-formed, decode, perform-decoded, step}
@@ -39,7 +40,7 @@ pub record Sized (s : State) : Type 0 where
 
 -- What is read of a block that holds a state is the state.
 pub state-held : (s : State) (W : List ℕ) → Sized s → state-in (holding s W) ≡ s
-unfolding holding words-of
+unfolding holding words-of sets-in
 state-held s W z =
     let A = s .graph .sets in
     let B = s .graph .conflicts in
@@ -60,6 +61,7 @@ holding-length s W z l =
 
 -- The state of a block is sized.
 pub block-sized : (W : List ℕ) → 193 ≤ length W → Sized (state-in W)
+unfolding sets-in
 block-sized W l = record {
   sets = table-whole W 1 (omega arith);
   conflicts = table-whole W 65 (omega arith);

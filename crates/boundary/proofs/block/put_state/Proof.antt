@@ -3,6 +3,7 @@
 use native.Mathlib.Omega.{arith}
 use mathlib.Core.Path.{_≡_, _∙_}
 use borrow.Author.Needs.{needs}
+use Rattle.graph.specs.Reading.{sets-in}
 use lib.ListN.{length, length-set}
 use Rattle.seats.specs.Reading.{read-state}
 use Rattle.seats.proofs.Written.{written-length}
@@ -42,6 +43,7 @@ same-length : tie.Need-same-length
 same-length c = let b = c .before .before in written-length (b .put-table3 .ensures) ∙ conflicts-length (third b)
 
 returns : tie.Need-returns
+unfolding sets-in
 returns c =
     let b = c .before .before in
     let s = entered (second (third b)) in

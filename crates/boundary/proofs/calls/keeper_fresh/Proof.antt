@@ -4,6 +4,7 @@ use mathlib.Core.Path.{refl}
 use borrow.Author.Needs.{needs}
 use borrow.Author.Tests.{lt-leb, le-leb}
 use Rattle.graph.specs.Graph as graph
+use Rattle.graph.specs.Reading.{sets-in}
 use Rattle.seats.specs.Seats.{fresh}
 use Rattle.seats.specs.Calls.{accepted}
 use Rattle.seats.specs.Tape.{answer-number, answer-place}
@@ -24,7 +25,7 @@ same-length : tie.Need-same-length
 same-length c = search needs
 
 returns-2 : tie.Need-returns-2
-unfolding fresh-block of-state fresh graph.fresh code-of answer-number answer-place
+unfolding fresh-block of-state fresh graph.fresh sets-in code-of answer-number answer-place
 returns-2 c = rw (le-leb _ _ (c .before .before .before .before .if1 .left)) (gives (c .before .before .before .before .before .before .args .block .now) accepted fresh refl (c .before .before .put-state .ensures) refl)
 
 pub keeper-fresh-spec : {M : Type 1} → statement M

@@ -3,6 +3,7 @@
 use mathlib.Core.Path.{refl, sym, _∙_}
 use native.Mathlib.Omega.{arith}
 use borrow.Author.Needs.{needs}
+use Rattle.graph.specs.Reading.{sets-in}
 use lib.ListN.{length-set}
 use Rattle.seats.specs.Calls.{reply, perform}
 use Rattle.seats.specs.Reading.{state-of, read-answer}
@@ -39,7 +40,7 @@ same-length c =
     written-length (c .before .before .before .put-table .ensures) ∙ length-set (s .args .block .now) 0 (d .changed .result .roles)
 
 returns : tie.Need-returns
-unfolding perform reply
+unfolding perform reply sets-in
 returns c =
     let d = c .before .before .before .before .before .before .before .before in
     let s = d .before .before .before .before in
