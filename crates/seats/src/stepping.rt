@@ -41,7 +41,7 @@ fn judge_held(roles: u64, seats: &[u64], a: Role) -> Verdict
     let Verdict::Passed = named else {
         return named;
     };
-    let place = searches::holder(seats, a);
+    let place = searches::seat_with_role(seats, a);
     if place < 64 {
         return refuse(24, place);
     }
@@ -93,7 +93,7 @@ fn refused(found: Refusal) -> Changed
 }
 
 // A change of the graph, but for refusal 24: judged, carried out, and judged again.
-fn changed<'a>(
+fn try_change<'a>(
     roles: u64,
     sets: &'a [u64],
     conflicts: &'a [u64],
@@ -134,7 +134,7 @@ pub fn decide_change<'a>(
     let verdict = judge_removal(roles, seats, edit);
     match verdict {
         Verdict::Refused(found) => refused(found),
-        Verdict::Passed => changed(roles, sets, conflicts, seats, edit),
+        Verdict::Passed => try_change(roles, sets, conflicts, seats, edit),
     }
 }
 

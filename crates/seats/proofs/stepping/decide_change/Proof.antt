@@ -20,8 +20,8 @@ refused-requires c κs = tt
 enum-told : tie.Need-enum-told
 enum-told c = search needs
 
-changed-requires : tie.Need-changed-requires
-changed-requires c κs = tt
+try-change-requires : tie.Need-try-change-requires
+try-change-requires c κs = tt
 
 returns : tie.Need-returns
 returns c =
@@ -36,7 +36,7 @@ returns-2 c =
     let j = c .before .before .before in
     let g = j .before .before .before .before .args in
     let s = state-of (g .roles) (g .sets .now) (g .conflicts .now) (g .seats .now) in
-    c .changed .ensures
+    c .try-change .ensures
     ∙ settled-without s (read-change (g .edit)) (j .judge-removal .ensures (g .sets .now) (g .conflicts .now)) (c .before .enum-told .given .1)
 
 pub decide-change-spec : {M : Type 1} → statement M
@@ -47,6 +47,6 @@ decide-change-spec =
     enum-known-verdict
     refused-requires
     enum-told
-    changed-requires
+    try-change-requires
     returns
     returns-2)

@@ -1,4 +1,4 @@
--- `seats::stepping::changed` meets its contract: a refusal before or after closing leaves the roles and sets, and what passes has those after the change.
+-- `seats::stepping::try_change` meets its contract: a refusal before or after closing leaves the roles and sets, and what passes has those after the change.
 -- Assumes nothing.
 use borrow.Author.Needs.{needs}
 use mathlib.Core.List.{_++_}
@@ -13,8 +13,8 @@ use Rattle.seats.specs.Reading.{state-of, read-answer, outcome}
 use Rattle.seats.specs.Working.{after-checks}
 use Rattle.seats.proofs.Changing.{before-checks, next}
 use Rattle.seats.proofs.JudgedCalls.{settle-refused, settle-passed}
-use Rattle.seats.proofs.stepping.changed.Statement.{statement}
-use Rattle.seats.proofs.stepping.changed.Tie as tie
+use Rattle.seats.proofs.stepping.try_change.Statement.{statement}
+use Rattle.seats.proofs.stepping.try_change.Tie as tie
 
 attempt-requires : tie.Need-attempt-requires
 attempt-requires c κs = tt
@@ -98,8 +98,8 @@ returns-3 c =
     ap (λ (h : Graph). (accepted, record { graph = h; seats = g .seats .now })) (moved j)
     ∙ sym (settle-passed accepted s (next s d) (decided j ∙ ap read-verdict (c .enum-told2 .given .1)))
 
-pub changed-spec : {M : Type 1} → statement M
-changed-spec =
+pub try-change-spec : {M : Type 1} → statement M
+try-change-spec =
     tie.close
     (tie.spec
     attempt-requires
