@@ -1,1 +1,1 @@
-pub mod Sittings
+pub mod Going

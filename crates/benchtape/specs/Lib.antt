@@ -1,1 +1,1 @@
-pub mod Sitting
+pub mod Progress

@@ -10,7 +10,7 @@ ghost use mathlib.Core.Path.{_≡_};
 ghost use Prim.Native.Nat.{ℕ};
 ghost use Rattle.seats.specs.Tape.{fed};
 ghost use Rattle.seats.specs.Reading.{read-state};
-ghost use Rattle.benchtape.specs.Sitting.{Within, last-line, Answered, Reached, Proceeded};
+ghost use Rattle.benchtape.specs.Progress.{Within, last-line, Answered, Reached, Proceeded};
 use graph::drawing;
 use libc::STDERR_FILENO;
 use libc::STDIN_FILENO;
@@ -37,8 +37,8 @@ enum Read {
     Failed,
 }
 
-// How far a sitting has come: the state, the records so far, whether there may be more of them, and whether something failed.
-struct Sitting {
+// How far the program has come: the state, the records so far, whether there may be more of them, and whether something failed.
+struct Progress {
     state: State,
     count: u64,
     more: bool,
@@ -74,50 +74,50 @@ fn fill(buffer: &mut [u8]) -> Read
     Read::Bytes(done)
 }
 
-// The sitting ends where it stands, and the reason goes to standard error.
-fn stop(sitting: Sitting, reason: &[u8]) -> Sitting
-    ensures { λ r. ⌜ ((bytes : List ℕ) → Answered sitting bytes r) ⌝ }
+// The program ends where it stands, and the reason goes to standard error.
+fn stop(progress: Progress, reason: &[u8]) -> Progress
+    ensures { λ r. ⌜ ((bytes : List ℕ) → Answered progress bytes r) ⌝ }
 {
     io::write_all(STDERR_FILENO, reason);
-    let state = sitting.state;
-    Sitting {
+    let state = progress.state;
+    Progress {
         state,
-        count: sitting.count,
+        count: progress.count,
         more: false,
         failed: true,
     }
 }
 
 // Writes the lines of these records, whoever calls it having shown that they are.
-fn write_lines(sitting: Sitting, bytes: &[u8], lines: &[u8]) -> bool
-    requires { ⌜ now lines ≡ fed (read-state (sitting .state)) (sitting .count) (now bytes) .0 ⌝ }
+fn write_lines(progress: Progress, bytes: &[u8], lines: &[u8]) -> bool
+    requires { ⌜ now lines ≡ fed (read-state (progress .state)) (progress .count) (now bytes) .0 ⌝ }
 {
     io::write_all(STDOUT_FILENO, lines)
 }
 
-// Writes the last line of a sitting, whoever calls it having shown that it is.
-fn write_last(sitting: Sitting, line: &[u8]) -> bool
-    requires { ⌜ (Reached sitting) × (now line ≡ last-line sitting) ⌝ }
+// Writes the last line, whoever calls it having shown that it is.
+fn write_last(progress: Progress, line: &[u8]) -> bool
+    requires { ⌜ (Reached progress) × (now line ≡ last-line progress) ⌝ }
 {
     io::write_all(STDOUT_FILENO, line)
 }
 
 // The records in these bytes are answered.
-fn answer(sitting: Sitting, bytes: &[u8]) -> Sitting
-    ensures { λ r. ⌜ Answered sitting (now (bytes .entry)) r ⌝ }
+fn answer(progress: Progress, bytes: &[u8]) -> Progress
+    ensures { λ r. ⌜ Answered progress (now (bytes .entry)) r ⌝ }
 {
     let mut room = room();
-    let state = sitting.state;
-    let fed = tape::feed(state, sitting.count, bytes, &mut room);
+    let state = progress.state;
+    let fed = tape::feed(state, progress.count, bytes, &mut room);
     let filled = fed.filled;
     match filled {
-        Filled::TooShort(_) => stop(sitting, b"benchtape: too many records\n"),
+        Filled::TooShort(_) => stop(progress, b"benchtape: too many records\n"),
         Filled::Written(n) => {
-            if !write_lines(sitting, bytes, &room[..n]) {
-                return stop(sitting, b"benchtape: writing failed\n");
+            if !write_lines(progress, bytes, &room[..n]) {
+                return stop(progress, b"benchtape: writing failed\n");
             }
             let after = fed.state;
-            Sitting {
+            Progress {
                 state: after,
                 count: fed.count,
                 more: bytes.len() == CHUNK,
@@ -128,61 +128,61 @@ fn answer(sitting: Sitting, bytes: &[u8]) -> Sitting
 }
 
 // The next bytes are read, and their records answered.
-fn proceed(sitting: Sitting) -> Sitting
-    requires { ⌜ (Reached sitting) × (sitting .more ≡ true) ⌝ }
-    ensures { λ r. ⌜ Proceeded sitting r ⌝ }
+fn proceed(progress: Progress) -> Progress
+    requires { ⌜ (Reached progress) × (progress .more ≡ true) ⌝ }
+    ensures { λ r. ⌜ Proceeded progress r ⌝ }
 {
     let mut buffer = chunk();
     let read = fill(&mut buffer);
     match read {
-        Read::Failed => stop(sitting, b"benchtape: reading failed\n"),
-        Read::Bytes(n) => answer(sitting, &buffer[..n]),
+        Read::Failed => stop(progress, b"benchtape: reading failed\n"),
+        Read::Bytes(n) => answer(progress, &buffer[..n]),
     }
 }
 
-// A sitting from a fresh state to the end of standard input.
-fn sit() -> Sitting
+// All records of standard input, from a fresh state on.
+fn answer_all() -> Progress
     ensures { λ r. ⌜ Reached r ⌝ }
 {
     let state = tape::fresh();
-    let mut sitting = Sitting {
+    let mut progress = Progress {
         state,
         count: 0,
         more: true,
         failed: false,
     };
     loop {
-        sitting = proceed(sitting);
-        if !sitting.more {
-            return sitting;
+        progress = proceed(progress);
+        if !progress.more {
+            return progress;
         }
     }
 }
 
 // The last line is written.
-fn finish(sitting: Sitting)
-    requires { ⌜ Reached sitting ⌝ }
+fn finish(progress: Progress)
+    requires { ⌜ Reached progress ⌝ }
 {
     let mut room = [0u8; 64];
-    let state = sitting.state;
+    let state = progress.state;
     let sets = state.sets;
     let edges = drawing::edge_count(state.roles, &sets) as u64;
-    let filled = text::write_end(&mut room, sitting.count, edges);
+    let filled = text::write_end(&mut room, progress.count, edges);
     match filled {
         Filled::TooShort(_) => {
-            stop(sitting, b"benchtape: no room for the last line\n");
+            stop(progress, b"benchtape: no room for the last line\n");
         }
         Filled::Written(n) => {
-            if !write_last(sitting, &room[..n]) {
-                stop(sitting, b"benchtape: writing failed\n");
+            if !write_last(progress, &room[..n]) {
+                stop(progress, b"benchtape: writing failed\n");
             }
         }
     }
 }
 
 fn main() {
-    let sitting = sit();
-    if !sitting.failed {
-        finish(sitting);
+    let progress = answer_all();
+    if !progress.failed {
+        finish(progress);
     }
 }

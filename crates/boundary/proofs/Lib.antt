@@ -1,5 +1,7 @@
-pub mod Copies
-pub mod Laid
-pub mod Taken
-pub mod Saved
-pub mod Held
+-- ---- a block of words
+pub mod TableCopies
+pub mod BlockWords
+pub mod BlockStates
+-- ---- answers as numbers
+pub mod CodedAnswer
+pub mod SaveCode

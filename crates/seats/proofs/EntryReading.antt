@@ -18,9 +18,9 @@ use Rattle.graph.specs.Tables.{at, put}
 use Rattle.seats.specs.Bytes.{number-at, Bytes}
 use Rattle.seats.specs.Images.{Entry, entries-at, keys, stored, stored-pairs, pair-place}
 use Rattle.seats.specs.ImageWork.{entry-of, ascends, numbered, paired, EntriesRead, stored-keys}
-use Rattle.seats.proofs.Entries.{Each}
-use Rattle.seats.proofs.Listing.{Rising}
-use Rattle.seats.proofs.Words.{one-byte}
+use Rattle.seats.proofs.EntryBytes.{Each}
+use Rattle.seats.proofs.AscendingEntries.{Rising}
+use Rattle.seats.proofs.ShortNumbers.{one-byte}
 
 -- ---- bytes
 -- A list whose every place has a byte is a list of bytes.

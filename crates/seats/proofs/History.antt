@@ -25,7 +25,7 @@ use Rattle.seats.specs.Records.{Decoded, decode, perform-decoded, step}
 use Rattle.seats.specs.Lists.{answers, end, without-refused, presence-change, presence, declaration, assignment, by-call, history}
 use Rattle.seats.specs.Invariants.{Invariant}
 use Rattle.seats.proofs.Settling.{refused-leaves, accepted-carries}
-use Rattle.seats.proofs.Recorded.{step-keeps}
+use Rattle.seats.proofs.RecordInvariant.{step-keeps}
 
 -- ---- roles
 added-role : (roles a r : ℕ) → (T (is-end a) → ⊥) → not (is-end r) && member r (union roles (single a)) ≡ (not (is-end r) && member r roles) || eqb r a

@@ -20,9 +20,9 @@ use Rattle.seats.specs.Bytes.{bytes-of}
 use Rattle.seats.specs.Seats.{State}
 use Rattle.seats.specs.Images.{Entry, listed-from, role-entries, conflict-entries, seat-entries, Contents, contents-of, Counts, counts-of, trailer-length, distance, trailer, parts, image}
 use Rattle.seats.proofs.Numbers.{length-bytes-of}
-use Rattle.seats.proofs.Entries.{Each, length-entry-bytes}
-use Rattle.seats.proofs.Listing.{valued, each-listed}
-use Rattle.seats.proofs.Stores.{filled}
+use Rattle.seats.proofs.EntryBytes.{Each, length-entry-bytes}
+use Rattle.seats.proofs.AscendingEntries.{valued, each-listed}
+use Rattle.seats.proofs.StoredEntries.{filled}
 
 pub length-trailer : (n : Counts) → length (trailer n) ≡ trailer-length
 unfolding trailer bytes-of

@@ -11,7 +11,7 @@ use Rattle.seats.specs.Bytes.{bytes-of, number-at}
 use Rattle.seats.specs.Images.{Entry, Contents, set-bytes, privilege-bytes, entry-bytes, trailer-length, least-image, Counts, counts-of, distance, trailer, parts, entries-at, far-at, counts-at, contents, load-contents, load-trailer, load}
 use Rattle.seats.specs.ImageWork.{Small}
 use Rattle.seats.proofs.Numbers.{length-bytes-of, number-drop, number-behind}
-use Rattle.seats.proofs.Entries.{Each, length-entry-bytes, entries-behind}
+use Rattle.seats.proofs.EntryBytes.{Each, length-entry-bytes, entries-behind}
 use Rattle.seats.proofs.ImageLength.{length-trailer, length-parts}
 
 -- ---- the trailer

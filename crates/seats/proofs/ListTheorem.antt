@@ -26,11 +26,11 @@ use Rattle.seats.specs.Lists.{answers, end, without-refused}
 use Rattle.seats.specs.ListTheorem.{Start, from-fresh, from-image, Present, present-by-calls, Declared, Assigned, MayUse, by-list, ListTheorem, DemandThree}
 use Rattle.seats.specs.Invariants.{Invariant}
 use Rattle.seats.proofs.Settling.{refused-leaves}
-use Rattle.seats.proofs.Fresh.{fresh-keeps}
-use Rattle.seats.proofs.LoadKeeps.{loaded-keeps}
-use Rattle.seats.proofs.Keeping.{seat-lt}
-use Rattle.seats.proofs.Recorded.{step-keeps}
-use Rattle.seats.proofs.Asking.{may-use-means, holds-iff}
+use Rattle.seats.proofs.FreshInvariant.{fresh-keeps}
+use Rattle.seats.proofs.LoadInvariant.{loaded-keeps}
+use Rattle.seats.proofs.CallInvariant.{seat-lt}
+use Rattle.seats.proofs.RecordInvariant.{step-keeps}
+use Rattle.seats.proofs.AskMeaning.{may-use-means, holds-iff}
 use Rattle.seats.proofs.History.{roles-after, conflicts-after, seats-after}
 
 -- Equal tests pass together.

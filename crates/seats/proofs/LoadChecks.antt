@@ -26,8 +26,8 @@ use Rattle.seats.specs.Calls as answers
 use Rattle.seats.specs.Images.{Entry, least-image, Counts, distance, Contents, far-at, counts-at, contents, keys, end-sets, restored, pair-place, entry-checks, content-checks, loaded, not-loaded, unless-refused, load-contents, load-trailer, load, settle-load, load-over}
 use Rattle.seats.specs.Reading.{state-of}
 use Rattle.seats.specs.ImageWork.{ascends, numbered, paired, TableRead, PairsRead, ContentsRead}
-use Rattle.seats.proofs.Entries.{Each, each-map, each-zip}
-use Rattle.seats.proofs.Listing.{Rising, rising-low, above}
+use Rattle.seats.proofs.EntryBytes.{Each, each-map, each-zip}
+use Rattle.seats.proofs.AscendingEntries.{Rising, rising-low, above}
 use Rattle.seats.proofs.LoadFacts.{Ordered, ordered, ordered-passes}
 use Rattle.seats.proofs.LoadRefusals.{load-refused-keeps}
 use Rattle.seats.proofs.EntryReading.{ascends-rising, rising-ascends}

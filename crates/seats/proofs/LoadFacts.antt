@@ -15,9 +15,9 @@ use Rattle.graph.specs.Refusing.{Verdict, passed, refused, verdict}
 use Rattle.seats.specs.Seats.{State, seat-count}
 use Rattle.seats.specs.Images.{Entry, Contents, least-image, distance, far-at, counts-at, contents, keys, restored, pair-place, no-ordinary-number, entry-checks, content-checks, Loaded, loaded, not-loaded, unless-refused, load-contents, load-trailer, load}
 use Rattle.graph.proofs.Refusals.{Passes, parts, passed-passes, number-lt}
-use Rattle.seats.proofs.Entries.{Each, each-map, each-zip}
-use Rattle.seats.proofs.Listing.{Rising, ordered-rising, rising-ordered, none-each, each-none}
-use Rattle.seats.proofs.Pairs.{Pair}
+use Rattle.seats.proofs.EntryBytes.{Each, each-map, each-zip}
+use Rattle.seats.proofs.AscendingEntries.{Rising, ordered-rising, rising-ordered, none-each, each-none}
+use Rattle.seats.proofs.StoredPairs.{Pair}
 
 -- The trailer and the contents of bytes that load.
 pub record Found (l : List ℕ) (s : State) : Type 0 where

@@ -24,8 +24,8 @@ use Rattle.seats.specs.Written.{Written}
 use Rattle.seats.specs.Images.{Entry, listed-from, role-entries, conflict-entries, seat-entries, entry-bytes}
 use Rattle.seats.specs.ImageWork.{member-entries, table-entries, row-entries, pair-entries}
 use Rattle.seats.proofs.Numbers.{length-bytes-of}
-use Rattle.seats.proofs.Stores.{filled}
-use Rattle.seats.proofs.Pairs.{pair-at, has-pair}
+use Rattle.seats.proofs.StoredEntries.{filled}
+use Rattle.seats.proofs.StoredPairs.{pair-at, has-pair}
 use Rattle.seats.proofs.ImageLength.{length-listed}
 use Rattle.seats.proofs.Written.{Unwritten, piece-room, unwritten-next, unwritten-none}
 

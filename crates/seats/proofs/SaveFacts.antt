@@ -11,7 +11,7 @@ use Rattle.seats.specs.Seats.{State}
 use Rattle.seats.specs.Images.{image, loaded, load}
 use Rattle.seats.specs.Saving.{save}
 use Rattle.seats.specs.Invariants.{Invariant}
-use Rattle.seats.proofs.SaveLoad.{loads-back}
+use Rattle.seats.proofs.SavedLoads.{loads-back}
 
 -- A buffer that is too short is not touched.
 pub save-refused : (s : State) (buffer : List ℕ) → length buffer < length (image s) → save s buffer ≡ (too-short 9 0, buffer)

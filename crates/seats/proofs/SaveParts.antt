@@ -14,7 +14,7 @@ use Rattle.seats.specs.Images.{role-entries, conflict-entries, seat-entr
 use Rattle.seats.specs.Saving.{save}
 use Rattle.seats.specs.Written.{Written}
 use Rattle.seats.specs.ImageWork.{table-entries, pair-entries}
-use Rattle.seats.proofs.Stores as stores
+use Rattle.seats.proofs.StoredEntries as stores
 use Rattle.seats.proofs.ImageLength.{image-length}
 use Rattle.seats.proofs.Written.{Unwritten, unwritten-all, filled, unfilled}
 use Rattle.seats.proofs.MemberEntries.{length-members, roles-listed, seats-listed}

@@ -195,7 +195,7 @@ fn judge_held(roles: u64, seats: &[u64], a: Role) -> Verdict
     let Verdict::Passed = named else {
         return named;
     };
-    let place = searches::holder(seats, a);
+    let place = searches::seat_with_role(seats, a);
     if place < 64 {
         return refuse(24, place);
     }
@@ -236,7 +236,7 @@ fn judge_after<'a>(
 }
 
 // A change of the graph, but for refusal 24: judged, carried out, and judged again.
-fn changed<'a>(
+fn try_change<'a>(
     roles: u64,
     sets: &'a [u64],
     conflicts: &'a [u64],
@@ -290,6 +290,6 @@ pub fn decide_change<'a>(
             answer: Answer::Refused(found),
             roles,
         },
-        Verdict::Passed => changed(roles, sets, conflicts, seats, edit, next),
+        Verdict::Passed => try_change(roles, sets, conflicts, seats, edit, next),
     }
 }

@@ -1,4 +1,4 @@
-// The lent state: each call of a sitting alters it.
+// The lent state: each call alters it.
 ghost use Rattle.seats.specs.Promises.{StepPromise};
 use crate::Answer;
 use crate::State;

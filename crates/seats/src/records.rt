@@ -62,15 +62,15 @@ fn formed(b: u8, most: u8, rest: bool, call: Call) -> Decoded
     }
 }
 
-// The change of the graph, likewise.
-fn changed(b: u8, most: u8, rest: bool, edit: Change) -> Decoded
+// The change of the graph that a record carries, likewise.
+fn decoded_change(b: u8, most: u8, rest: bool, edit: Change) -> Decoded
     ensures { λ r. ⌜ read-decoded r ≡ cond (leb b most && rest) (well-formed (change (read-change edit))) malformed ⌝ }
 {
     formed(b, most, rest, Call::Change(edit))
 }
 
-// The request, likewise.
-fn requested(b: u8, rest: bool, request: Request) -> Decoded
+// The request that a record carries, likewise.
+fn decoded_request(b: u8, rest: bool, request: Request) -> Decoded
     ensures { λ r. ⌜ read-decoded r ≡ cond (leb b 255 && rest) (well-formed (read-request request)) malformed ⌝ }
 {
     formed(b, 255, rest, Call::Request(request))
@@ -83,18 +83,18 @@ fn named(kind: u8, a: u8, b: u8, x: u64, y: u64, z: u64) -> Decoded
     let own = PrivilegeSet { word: x };
     let none = unused(x, y, z);
     match kind {
-        1 => changed(b, 0, true, Change::AddByPlace(Role(a), own, y, z)),
-        2 => changed(b, 0, unused(0, y, z), Change::AddByPrivileges(Role(a), own)),
-        3 => changed(b, 1, none, Change::RemoveRole(Role(a), b)),
-        4 => changed(b, 255, none, Change::Grant(Role(a), Privilege(b))),
-        5 => changed(b, 255, none, Change::Withdraw(Role(a), Privilege(b))),
-        6 => changed(b, 255, none, Change::AddEdge(Role(a), Role(b))),
-        7 => changed(b, 255, none, Change::RemoveEdge(Role(a), Role(b))),
-        8 => requested(b, none, Request::Declare(Privilege(a), Privilege(b))),
-        9 => requested(b, none, Request::Lift(Privilege(a), Privilege(b))),
-        10 => requested(b, none, Request::Assign(Seat(a), Role(b))),
-        11 => requested(b, none, Request::Unassign(Seat(a), Role(b))),
-        12 => requested(b, none, Request::Ask(Seat(a), Privilege(b))),
+        1 => decoded_change(b, 0, true, Change::AddByPlace(Role(a), own, y, z)),
+        2 => decoded_change(b, 0, unused(0, y, z), Change::AddByPrivileges(Role(a), own)),
+        3 => decoded_change(b, 1, none, Change::RemoveRole(Role(a), b)),
+        4 => decoded_change(b, 255, none, Change::Grant(Role(a), Privilege(b))),
+        5 => decoded_change(b, 255, none, Change::Withdraw(Role(a), Privilege(b))),
+        6 => decoded_change(b, 255, none, Change::AddEdge(Role(a), Role(b))),
+        7 => decoded_change(b, 255, none, Change::RemoveEdge(Role(a), Role(b))),
+        8 => decoded_request(b, none, Request::Declare(Privilege(a), Privilege(b))),
+        9 => decoded_request(b, none, Request::Lift(Privilege(a), Privilege(b))),
+        10 => decoded_request(b, none, Request::Assign(Seat(a), Role(b))),
+        11 => decoded_request(b, none, Request::Unassign(Seat(a), Role(b))),
+        12 => decoded_request(b, none, Request::Ask(Seat(a), Privilege(b))),
         0 | 13..=255 => Decoded::Malformed,
     }
 }

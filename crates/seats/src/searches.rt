@@ -19,7 +19,7 @@ use graph::table::roles_at;
 use graph::table::union_at;
 
 // The lowest seat that has the role.
-pub(crate) fn holder(seats: &[u64], role: Role) -> u8
+pub(crate) fn seat_with_role(seats: &[u64], role: Role) -> u8
     ensures { λ v. ⌜ v ≡ lowest seat-count (λ i. member (role .0) (at (now (seats .entry)) i)) ⌝ }
 {
     let r = role.0 as usize;

@@ -21,7 +21,7 @@ use crate::writing::too_short;
 // How many bytes the longest line has.
 pub const LINE: usize = 29;
 
-// A fresh state, from which a sitting starts.
+// A fresh state.
 pub fn fresh() -> State
     ensures { λ r. ⌜ FreshPromise r ⌝ }
 {

@@ -4,7 +4,7 @@ use borrow.Author.Needs.{needs}
 use mathlib.Core.Path.{sym}
 use lib.Seq.{length-take-le}
 use Rattle.seats.specs.Reading.{read-state}
-use Rattle.benchtape.proofs.Sittings.{fed-told, answered}
+use Rattle.benchtape.proofs.Going.{fed-told, answered}
 use Rattle.benchtape.proofs.answer.Statement.{statement}
 use Rattle.benchtape.proofs.answer.Tie as tie
 
@@ -33,20 +33,20 @@ array-share-prefix-room : tie.Need-array-share-prefix-room
 array-share-prefix-room c =
     let f = c .before .before .before .before in
     let s = f .before .before .before .before .before .args in
-    fed-told (c .before .filled .given .1) (read-state (s .sitting .state)) (s .sitting .count) (s .bytes .now) _ (f .feed .ensures) .within
+    fed-told (c .before .filled .given .1) (read-state (s .progress .state)) (s .progress .count) (s .bytes .now) _ (f .feed .ensures) .within
 
 slice-aggregate-write-lines : tie.Need-slice-aggregate-write-lines
 slice-aggregate-write-lines c =
     let f = c .before .before .before .before .before in
     let s = f .before .before .before .before .before .args in
-    let t = fed-told (c .before .before .filled .given .1) (read-state (s .sitting .state)) (s .sitting .count) (s .bytes .now) _ (f .feed .ensures) in
+    let t = fed-told (c .before .before .filled .given .1) (read-state (s .progress .state)) (s .progress .count) (s .bytes .now) _ (f .feed .ensures) in
     sym (length-take-le _ _ (t .within))
 
 write-lines-requires : tie.Need-write-lines-requires
 write-lines-requires c κs =
     let f = c .before .before .before .before .before in
     let s = f .before .before .before .before .before .args in
-    fed-told (c .before .before .filled .given .1) (read-state (s .sitting .state)) (s .sitting .count) (s .bytes .now) _ (f .feed .ensures) .text
+    fed-told (c .before .before .filled .given .1) (read-state (s .progress .state)) (s .progress .count) (s .bytes .now) _ (f .feed .ensures) .text
 
 slice-aggregate-stop-2 : tie.Need-slice-aggregate-stop-2
 slice-aggregate-stop-2 c = search needs
@@ -64,7 +64,7 @@ returns-3 : tie.Need-returns-3
 returns-3 c =
     let f = c .before .before .before .before .before .before .before .before in
     let s = f .before .before .before .before .before .args in
-    answered (fed-told (c .before .before .before .before .before .filled .given .1) (read-state (s .sitting .state)) (s .sitting .count) (s .bytes .now) _ (f .feed .ensures))
+    answered (fed-told (c .before .before .before .before .before .filled .given .1) (read-state (s .progress .state)) (s .progress .count) (s .bytes .now) _ (f .feed .ensures))
 
 pub answer-spec : {M : Type 1} → statement M
 answer-spec =

@@ -1,10 +1,10 @@
--- `finish` meets its contract: what it writes is the last line, with the number of edges of the sitting's state.
+-- `finish` meets its contract: what it writes is the last line, with the number of edges of the state.
 -- Assumes nothing.
 use borrow.Author.Needs.{needs}
 use mathlib.Core.Path.{sym, ap, _∙_}
 use lib.Seq.{length-take-le}
 use Rattle.seats.specs.Tape.{end-line}
-use Rattle.benchtape.proofs.Sittings.{line-told, edges-of}
+use Rattle.benchtape.proofs.Going.{line-told, edges-of}
 use Rattle.benchtape.proofs.finish.Statement.{statement}
 use Rattle.benchtape.proofs.finish.Tie as tie
 
@@ -47,8 +47,8 @@ write-last-requires c κs =
     let w = c .before .before .before .before .before in
     let e = w .before .before in
     let s = e .before .before .before .before in
-    let n = e .edge-count .ensures ∙ edges-of (s .args .sitting .state) in
-    (s .pre, line-told (c .before .before .filled .given .1) _ _ (w .write-end .ensures) .1 ∙ ap (end-line (s .args .sitting .count)) n)
+    let n = e .edge-count .ensures ∙ edges-of (s .args .progress .state) in
+    (s .pre, line-told (c .before .before .filled .given .1) _ _ (w .write-end .ensures) .1 ∙ ap (end-line (s .args .progress .count)) n)
 
 slice-aggregate-stop-2 : tie.Need-slice-aggregate-stop-2
 slice-aggregate-stop-2 c = search needs

@@ -1,8 +1,8 @@
--- `proceed` meets its contract: a failure and an answer both leave the sitting where a tape leads.
+-- `proceed` meets its contract: a failure and an answer both leave the program where a tape leads.
 -- Assumes nothing.
 use borrow.Author.Needs.{needs}
 use mathlib.Core.List.{[]}
-use Rattle.benchtape.proofs.Sittings.{within, proceeded}
+use Rattle.benchtape.proofs.Going.{within, proceeded}
 use Rattle.benchtape.proofs.proceed.Statement.{statement}
 use Rattle.benchtape.proofs.proceed.Tie as tie
 
@@ -39,12 +39,12 @@ answer-requires c κs = search needs
 returns : tie.Need-returns
 returns c =
     let s = c .before .before .before .before .before .before .before .before in
-    proceeded (s .args .sitting) _ [] (s .pre .0) (s .pre .1) (c .stop .ensures [])
+    proceeded (s .args .progress) _ [] (s .pre .0) (s .pre .1) (c .stop .ensures [])
 
 returns-2 : tie.Need-returns-2
 returns-2 c =
     let s = c .before .before .before .before .before .before .before .before .before in
-    proceeded (s .args .sitting) _ _ (s .pre .0) (s .pre .1) (c .answer .ensures)
+    proceeded (s .args .progress) _ _ (s .pre .0) (s .pre .1) (c .answer .ensures)
 
 pub proceed-spec : {M : Type 1} → statement M
 proceed-spec =

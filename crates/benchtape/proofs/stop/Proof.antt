@@ -1,7 +1,7 @@
 -- `stop` meets its contract: nothing but the two marks differs.
 -- Assumes nothing.
 use borrow.Author.Needs.{needs}
-use Rattle.benchtape.proofs.Sittings.{stopped}
+use Rattle.benchtape.proofs.Going.{stopped}
 use Rattle.benchtape.proofs.stop.Statement.{statement}
 use Rattle.benchtape.proofs.stop.Tie as tie
 
@@ -9,7 +9,7 @@ write-all-requires : tie.Need-write-all-requires
 write-all-requires c κs = search needs
 
 returns : tie.Need-returns
-returns c = stopped (c .before .before .before .args .sitting)
+returns c = stopped (c .before .before .before .args .progress)
 
 pub stop-spec : {M : Type 1} → statement M
 stop-spec = tie.close (tie.spec write-all-requires returns)

@@ -7,7 +7,7 @@ use Rattle.graph.specs.Reading.{sets-in}
 use lib.ListN.{length, length-set}
 use Rattle.seats.specs.Reading.{read-state}
 use Rattle.seats.proofs.Written.{written-length}
-use Rattle.boundary.proofs.Laid.{state-put}
+use Rattle.boundary.proofs.BlockWords.{state-put}
 use Rattle.boundary.proofs.block.put_state.Statement.{statement}
 use Rattle.boundary.proofs.block.put_state.Tie as tie
 

@@ -6,7 +6,7 @@ use native.Mathlib.Omega.{arith}
 use borrow.Author.Needs.{needs}
 use lib.ListN.{length, drop}
 use Rattle.seats.proofs.Written.{Unwritten, unwritten-length}
-use Rattle.boundary.proofs.Copies.{none-in, copied-in, all-in}
+use Rattle.boundary.proofs.TableCopies.{none-in, copied-in, all-in}
 use Rattle.boundary.proofs.block.put_table.Statement.{statement}
 use Rattle.boundary.proofs.block.put_table.Tie as tie
 

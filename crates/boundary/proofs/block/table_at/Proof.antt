@@ -6,7 +6,7 @@ use Prim.Native.Nat.{_+_, _-_, _≤_, _<_}
 use native.Mathlib.Omega.{arith}
 use borrow.Author.Needs.{needs}
 use lib.ListN.{length, take, drop, replicate, length-set}
-use Rattle.boundary.proofs.Copies.{copied-out, all-out}
+use Rattle.boundary.proofs.TableCopies.{copied-out, all-out}
 use Rattle.boundary.proofs.block.table_at.Statement.{statement}
 use Rattle.boundary.proofs.block.table_at.Tie as tie
 

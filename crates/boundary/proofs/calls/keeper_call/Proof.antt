@@ -10,8 +10,8 @@ use Rattle.seats.specs.Reading.{read-call, read-decoded}
 use Rattle.seats.specs.declared.Call.{Call}
 use Rattle.boundary.specs.Block.{state-in, of-state}
 use Rattle.boundary.specs.Keeper.{given, call-block}
-use Rattle.boundary.proofs.Laid.{holds-own}
-use Rattle.boundary.proofs.Taken.{gives}
+use Rattle.boundary.proofs.BlockWords.{holds-own}
+use Rattle.boundary.proofs.CodedAnswer.{gives}
 use Rattle.boundary.proofs.calls.keeper_call.Statement.{statement}
 use Rattle.boundary.proofs.calls.keeper_call.Tie as tie
 

@@ -10,7 +10,7 @@ use Rattle.seats.specs.Calls.{accepted}
 use Rattle.seats.specs.Tape.{answer-number, answer-place}
 use Rattle.boundary.specs.Block.{of-state, code-of}
 use Rattle.boundary.specs.Keeper.{fresh-block}
-use Rattle.boundary.proofs.Taken.{gives}
+use Rattle.boundary.proofs.CodedAnswer.{gives}
 use Rattle.boundary.proofs.calls.keeper_fresh.Statement.{statement}
 use Rattle.boundary.proofs.calls.keeper_fresh.Tie as tie
 

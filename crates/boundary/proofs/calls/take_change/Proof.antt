@@ -10,8 +10,8 @@ use Rattle.seats.specs.Reading.{state-of, read-answer}
 use Rattle.seats.proofs.Changing.{accepted-taken, other-taken}
 use Rattle.seats.proofs.Written.{written-length}
 use Rattle.boundary.specs.Block.{table-at, state-in}
-use Rattle.boundary.proofs.Laid.{graph-put, holds-own}
-use Rattle.boundary.proofs.Taken.{gives}
+use Rattle.boundary.proofs.BlockWords.{graph-put, holds-own}
+use Rattle.boundary.proofs.CodedAnswer.{gives}
 use Rattle.boundary.proofs.calls.take_change.Statement.{statement}
 use Rattle.boundary.proofs.calls.take_change.Tie as tie
 

@@ -7,8 +7,8 @@ use borrow.Author.Needs.{needs}
 use Rattle.seats.specs.declared.Stored.{Stored}
 use Rattle.seats.specs.Reading.{read-answer, stored}
 use Rattle.boundary.specs.Block.{state-in}
-use Rattle.boundary.proofs.Laid.{holds-own, conflicts-stored, roles-stored}
-use Rattle.boundary.proofs.Taken.{gives}
+use Rattle.boundary.proofs.BlockWords.{holds-own, conflicts-stored, roles-stored}
+use Rattle.boundary.proofs.CodedAnswer.{gives}
 use Rattle.boundary.proofs.calls.take_request.Statement.{statement}
 use Rattle.boundary.proofs.calls.take_request.Tie as tie
 

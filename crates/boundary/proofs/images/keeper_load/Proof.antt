@@ -8,7 +8,7 @@ use Rattle.seats.specs.Images.{load-over}
 use Rattle.seats.specs.Reading.{read-state, read-answer}
 use Rattle.boundary.specs.Block.{of-state}
 use Rattle.boundary.specs.Keeper.{load-block}
-use Rattle.boundary.proofs.Taken.{gives}
+use Rattle.boundary.proofs.CodedAnswer.{gives}
 use Rattle.boundary.proofs.images.keeper_load.Statement.{statement}
 use Rattle.boundary.proofs.images.keeper_load.Tie as tie
 

@@ -9,7 +9,7 @@ use Rattle.seats.specs.Reading.{read-filled}
 use Rattle.seats.specs.declared.Filled.{Filled}
 use Rattle.boundary.specs.Block.{state-in, of-state, save-code}
 use Rattle.boundary.specs.Keeper.{save-block}
-use Rattle.boundary.proofs.Saved.{written-le, saves}
+use Rattle.boundary.proofs.SaveCode.{written-le, saves}
 use Rattle.boundary.proofs.images.keeper_save.Statement.{statement}
 use Rattle.boundary.proofs.images.keeper_save.Tie as tie
 

@@ -5,7 +5,7 @@ use mathlib.Core.Path.{sym, ap₂, _∙_}
 use Rattle.seats.specs.Seats.{State}
 use Rattle.seats.specs.Calls.{Answer}
 use Rattle.seats.specs.Reading.{state-of, read-request}
-use Rattle.seats.proofs.Asking.{steps-ask, ask-keeps}
+use Rattle.seats.proofs.AskMeaning.{steps-ask, ask-keeps}
 use Rattle.seats.proofs.deciding.decide.Statement.{statement}
 use Rattle.seats.proofs.deciding.decide.Tie as tie
 

@@ -19,8 +19,8 @@ enum-known-verdict c = search needs
 enum-told : tie.Need-enum-told
 enum-told c = search needs
 
-changed-requires : tie.Need-changed-requires
-changed-requires c κs = tt
+try-change-requires : tie.Need-try-change-requires
+try-change-requires c κs = tt
 
 returns : tie.Need-returns
 unfolding read-answer
@@ -37,7 +37,7 @@ returns-2 c =
     let g = j .before .before .before .before .args in
     let s = state-of (g .roles) (g .sets .now) (g .conflicts .now) (g .seats .now) in
     let d = read-change (g .edit) in
-    c .changed .ensures
+    c .try-change .ensures
     ∙ ap (λ (v : Verdict). settle v accepted (state-of (g .roles) (g .next .now) (g .conflicts .now) (g .seats .now)) (next s d)) (checks-without s d (j .judge-removal .ensures (g .sets .now) (g .conflicts .now)) (c .before .before .enum-told .given .1))
 
 pub decide-change-spec : {M : Type 1} → statement M
@@ -47,6 +47,6 @@ decide-change-spec =
     judge-removal-requires
     enum-known-verdict
     enum-told
-    changed-requires
+    try-change-requires
     returns
     returns-2)

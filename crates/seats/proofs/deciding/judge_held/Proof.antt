@@ -32,8 +32,8 @@ returns c S C b =
     let d = remove-role (g .a .0) b in
     refused-first (before-checks s d) (seat-checks s d) (c .before .before .judge-role .ensures) (c .enum-told2 .given .1)
 
-holder-requires : tie.Need-holder-requires
-holder-requires c κs = tt
+seat-with-role-requires : tie.Need-seat-with-role-requires
+seat-with-role-requires c κs = tt
 
 refuse-requires : tie.Need-refuse-requires
 refuse-requires c κs = tt
@@ -45,9 +45,9 @@ returns-2 c S C b =
     let g = h .before .before .before .before .before .args in
     let s = state-of (g .roles) S C (g .seats .now) in
     let d = remove-role (g .a .0) b in
-    c .refuse .ensures ∙ ap (refused 24) (h .holder .ensures)
+    c .refuse .ensures ∙ ap (refused 24) (h .seat-with-role .ensures)
     ∙ sym (passed-first (before-checks s d) (seat-checks s d) (h .before .before .before .judge-role .ensures) (h .before .enum-told .given .1)
-    ∙ stops _ _ (place-found _ (h .holder .ensures) (c .before .if1 .taken)))
+    ∙ stops _ _ (place-found _ (h .seat-with-role .ensures) (c .before .if1 .taken)))
 
 returns-3 : tie.Need-returns-3
 unfolding removal-checks input-checks state-checks seat-checks present assigned read-verdict
@@ -58,7 +58,7 @@ returns-3 c S C b =
     let d = remove-role (g .a .0) b in
     ends
     ∙ sym (passed-first (before-checks s d) (seat-checks s d) (h .before .before .before .judge-role .ensures) (h .before .enum-told .given .1)
-    ∙ moves-on _ _ (place-none _ (h .holder .ensures) (c .if1 .left)))
+    ∙ moves-on _ _ (place-none _ (h .seat-with-role .ensures) (c .if1 .left)))
 
 pub judge-held-spec : {M : Type 1} → statement M
 judge-held-spec =
@@ -68,7 +68,7 @@ judge-held-spec =
     enum-told
     enum-told-2
     returns
-    holder-requires
+    seat-with-role-requires
     refuse-requires
     returns-2
     returns-3)

@@ -2,7 +2,7 @@
 -- Assumes nothing.
 use borrow.Author.Needs.{needs}
 use native.Mathlib.Omega.{arith}
-use Rattle.seats.proofs.Words.{two-bytes}
+use Rattle.seats.proofs.ShortNumbers.{two-bytes}
 use Rattle.seats.proofs.endian.half.Statement.{statement}
 use Rattle.seats.proofs.endian.half.Tie as tie
 

@@ -2,7 +2,7 @@
 -- Assumes nothing.
 use borrow.Author.Needs.{needs}
 use native.Mathlib.Omega.{arith}
-use Rattle.seats.proofs.Words.{eight-bytes}
+use Rattle.seats.proofs.ShortNumbers.{eight-bytes}
 use Rattle.seats.proofs.endian.word.Statement.{statement}
 use Rattle.seats.proofs.endian.word.Tie as tie
 

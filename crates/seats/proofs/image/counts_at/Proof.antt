@@ -3,7 +3,7 @@
 use borrow.Author.Needs.{needs}
 use mathlib.Core.Path.{_∙_}
 use Rattle.seats.specs.Images.{counts-at}
-use Rattle.seats.proofs.Words.{one-byte}
+use Rattle.seats.proofs.ShortNumbers.{one-byte}
 use Rattle.seats.proofs.image.counts_at.Statement.{statement}
 use Rattle.seats.proofs.image.counts_at.Tie as tie
 

@@ -7,7 +7,7 @@ use Prim.Native.Nat.{_-_}
 use lib.ListN.{length}
 use Rattle.seats.specs.Images.{far-at, contents, load-contents, load}
 use Rattle.seats.specs.Reading.{read-answer, read-counts}
-use Rattle.seats.proofs.Words.{four-bytes}
+use Rattle.seats.proofs.ShortNumbers.{four-bytes}
 use Rattle.seats.proofs.LoadChecks.{too-few-bytes, other-distance, beyond-bytes, contents-decide, entries-refused, state-refused, state-loaded, refused-load, accepted-load}
 use Rattle.seats.proofs.loading.load.Statement.{statement}
 use Rattle.seats.proofs.loading.load.Tie as tie

@@ -5,7 +5,7 @@ use Prim.Native.Nat.{ℕ, _<_}
 use lib.ListN.{getD}
 use Rattle.seats.specs.Images.{distance, contents}
 use Rattle.seats.specs.Reading.{read-counts}
-use Rattle.seats.proofs.Entries.{entries-lt}
+use Rattle.seats.proofs.EntryBytes.{entries-lt}
 use Rattle.seats.proofs.EntryReading.{places-bytes}
 use Rattle.seats.proofs.LoadChecks.{contents-read}
 use Rattle.seats.proofs.loading.read_contents.Statement.{statement}

@@ -2,7 +2,7 @@
 -- Assumes nothing.
 use borrow.Author.Needs.{needs}
 use native.Mathlib.Omega.{arith}
-use Rattle.seats.proofs.Tapes.{part-is, part-none}
+use Rattle.seats.proofs.TapePlaces.{part-is, part-none}
 use Rattle.seats.proofs.reader.record_at.Statement.{statement}
 use Rattle.seats.proofs.reader.record_at.Tie as tie
 

@@ -12,92 +12,92 @@ use Rattle.seats.proofs.records.named.Tie as tie
 unused-requires : tie.Need-unused-requires
 unused-requires c κs = search needs
 
-changed-requires : tie.Need-changed-requires
-changed-requires c κs = search needs
+decoded-change-requires : tie.Need-decoded-change-requires
+decoded-change-requires c κs = search needs
 
 unused-requires-2 : tie.Need-unused-requires-2
 unused-requires-2 c κs = search needs
 
-changed-requires-2 : tie.Need-changed-requires-2
-changed-requires-2 c κs = search needs
+decoded-change-requires-2 : tie.Need-decoded-change-requires-2
+decoded-change-requires-2 c κs = search needs
 
-changed-requires-3 : tie.Need-changed-requires-3
-changed-requires-3 c κs = search needs
+decoded-change-requires-3 : tie.Need-decoded-change-requires-3
+decoded-change-requires-3 c κs = search needs
 
-changed-requires-4 : tie.Need-changed-requires-4
-changed-requires-4 c κs = search needs
+decoded-change-requires-4 : tie.Need-decoded-change-requires-4
+decoded-change-requires-4 c κs = search needs
 
-changed-requires-5 : tie.Need-changed-requires-5
-changed-requires-5 c κs = search needs
+decoded-change-requires-5 : tie.Need-decoded-change-requires-5
+decoded-change-requires-5 c κs = search needs
 
-changed-requires-6 : tie.Need-changed-requires-6
-changed-requires-6 c κs = search needs
+decoded-change-requires-6 : tie.Need-decoded-change-requires-6
+decoded-change-requires-6 c κs = search needs
 
-changed-requires-7 : tie.Need-changed-requires-7
-changed-requires-7 c κs = search needs
+decoded-change-requires-7 : tie.Need-decoded-change-requires-7
+decoded-change-requires-7 c κs = search needs
 
-requested-requires : tie.Need-requested-requires
-requested-requires c κs = search needs
+decoded-request-requires : tie.Need-decoded-request-requires
+decoded-request-requires c κs = search needs
 
-requested-requires-2 : tie.Need-requested-requires-2
-requested-requires-2 c κs = search needs
+decoded-request-requires-2 : tie.Need-decoded-request-requires-2
+decoded-request-requires-2 c κs = search needs
 
-requested-requires-3 : tie.Need-requested-requires-3
-requested-requires-3 c κs = search needs
+decoded-request-requires-3 : tie.Need-decoded-request-requires-3
+decoded-request-requires-3 c κs = search needs
 
-requested-requires-4 : tie.Need-requested-requires-4
-requested-requires-4 c κs = search needs
+decoded-request-requires-4 : tie.Need-decoded-request-requires-4
+decoded-request-requires-4 c κs = search needs
 
-requested-requires-5 : tie.Need-requested-requires-5
-requested-requires-5 c κs = search needs
+decoded-request-requires-5 : tie.Need-decoded-request-requires-5
+decoded-request-requires-5 c κs = search needs
 
 returns : tie.Need-returns
 unfolding kinds unused all-empty read-change
-returns c = rw (c .before .match .keys1) (c .changed .ensures ∙ at-kind _ 0 3 _ refl)
+returns c = rw (c .before .match .keys1) (c .decoded-change .ensures ∙ at-kind _ 0 3 _ refl)
 
 returns-2 : tie.Need-returns-2
 unfolding kinds unused all-empty read-change
-returns-2 c = rw (c .before .before .match .keys2) (c .changed2 .ensures ∙ at-kind _ 0 1 _ (c .before .unused2 .ensures))
+returns-2 c = rw (c .before .before .match .keys2) (c .decoded-change2 .ensures ∙ at-kind _ 0 1 _ (c .before .unused2 .ensures))
 
 returns-3 : tie.Need-returns-3
 unfolding kinds unused all-empty read-change
-returns-3 c = rw (c .before .match .keys3) (c .changed3 .ensures ∙ at-kind _ 1 0 _ (c .before .before .unused .ensures))
+returns-3 c = rw (c .before .match .keys3) (c .decoded-change3 .ensures ∙ at-kind _ 1 0 _ (c .before .before .unused .ensures))
 
 returns-4 : tie.Need-returns-4
 unfolding kinds unused all-empty read-change
-returns-4 c = rw (c .before .match .keys4) (c .changed4 .ensures ∙ at-kind _ 255 0 _ (c .before .before .unused .ensures))
+returns-4 c = rw (c .before .match .keys4) (c .decoded-change4 .ensures ∙ at-kind _ 255 0 _ (c .before .before .unused .ensures))
 
 returns-5 : tie.Need-returns-5
 unfolding kinds unused all-empty read-change
-returns-5 c = rw (c .before .match .keys5) (c .changed5 .ensures ∙ at-kind _ 255 0 _ (c .before .before .unused .ensures))
+returns-5 c = rw (c .before .match .keys5) (c .decoded-change5 .ensures ∙ at-kind _ 255 0 _ (c .before .before .unused .ensures))
 
 returns-6 : tie.Need-returns-6
 unfolding kinds unused all-empty read-change
-returns-6 c = rw (c .before .match .keys6) (c .changed6 .ensures ∙ at-kind _ 255 0 _ (c .before .before .unused .ensures))
+returns-6 c = rw (c .before .match .keys6) (c .decoded-change6 .ensures ∙ at-kind _ 255 0 _ (c .before .before .unused .ensures))
 
 returns-7 : tie.Need-returns-7
 unfolding kinds unused all-empty read-change
-returns-7 c = rw (c .before .match .keys7) (c .changed7 .ensures ∙ at-kind _ 255 0 _ (c .before .before .unused .ensures))
+returns-7 c = rw (c .before .match .keys7) (c .decoded-change7 .ensures ∙ at-kind _ 255 0 _ (c .before .before .unused .ensures))
 
 returns-8 : tie.Need-returns-8
 unfolding kinds unused all-empty read-request
-returns-8 c = rw (c .before .match .keys8) (c .requested .ensures ∙ at-kind _ 255 0 _ (c .before .before .unused .ensures))
+returns-8 c = rw (c .before .match .keys8) (c .decoded-request .ensures ∙ at-kind _ 255 0 _ (c .before .before .unused .ensures))
 
 returns-9 : tie.Need-returns-9
 unfolding kinds unused all-empty read-request
-returns-9 c = rw (c .before .match .keys9) (c .requested2 .ensures ∙ at-kind _ 255 0 _ (c .before .before .unused .ensures))
+returns-9 c = rw (c .before .match .keys9) (c .decoded-request2 .ensures ∙ at-kind _ 255 0 _ (c .before .before .unused .ensures))
 
 returns-10 : tie.Need-returns-10
 unfolding kinds unused all-empty read-request
-returns-10 c = rw (c .before .match .keys10) (c .requested3 .ensures ∙ at-kind _ 255 0 _ (c .before .before .unused .ensures))
+returns-10 c = rw (c .before .match .keys10) (c .decoded-request3 .ensures ∙ at-kind _ 255 0 _ (c .before .before .unused .ensures))
 
 returns-11 : tie.Need-returns-11
 unfolding kinds unused all-empty read-request
-returns-11 c = rw (c .before .match .keys11) (c .requested4 .ensures ∙ at-kind _ 255 0 _ (c .before .before .unused .ensures))
+returns-11 c = rw (c .before .match .keys11) (c .decoded-request4 .ensures ∙ at-kind _ 255 0 _ (c .before .before .unused .ensures))
 
 returns-12 : tie.Need-returns-12
 unfolding kinds unused all-empty read-request
-returns-12 c = rw (c .before .match .keys12) (c .requested5 .ensures ∙ at-kind _ 255 0 _ (c .before .before .unused .ensures))
+returns-12 c = rw (c .before .match .keys12) (c .decoded-request5 .ensures ∙ at-kind _ 255 0 _ (c .before .before .unused .ensures))
 
 returns-13 : tie.Need-returns-13
 unfolding read-decoded
@@ -112,19 +112,19 @@ named-spec =
     tie.close
     (tie.spec
     unused-requires
-    changed-requires
+    decoded-change-requires
     unused-requires-2
-    changed-requires-2
-    changed-requires-3
-    changed-requires-4
-    changed-requires-5
-    changed-requires-6
-    changed-requires-7
-    requested-requires
-    requested-requires-2
-    requested-requires-3
-    requested-requires-4
-    requested-requires-5
+    decoded-change-requires-2
+    decoded-change-requires-3
+    decoded-change-requires-4
+    decoded-change-requires-5
+    decoded-change-requires-6
+    decoded-change-requires-7
+    decoded-request-requires
+    decoded-request-requires-2
+    decoded-request-requires-3
+    decoded-request-requires-4
+    decoded-request-requires-5
     returns
     returns-2
     returns-3

@@ -2,7 +2,7 @@
 -- Assumes nothing.
 use borrow.Author.Needs.{needs}
 use native.Mathlib.Omega.{arith}
-use Rattle.seats.proofs.Words.{five-bytes}
+use Rattle.seats.proofs.ShortNumbers.{five-bytes}
 use Rattle.seats.proofs.records.spare.Statement.{statement}
 use Rattle.seats.proofs.records.spare.Tie as tie
 

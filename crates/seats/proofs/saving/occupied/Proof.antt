@@ -7,7 +7,7 @@ use Prim.Native.Nat.{ℕ, _+_, _-_, _≤_}
 use native.Mathlib.Numerals.{add-one}
 use native.Mathlib.Omega.{arith}
 use Rattle.sets.specs.Sets.{single, when, union, collect}
-use Rattle.seats.proofs.Stores.{filled}
+use Rattle.seats.proofs.StoredEntries.{filled}
 use Rattle.seats.proofs.saving.occupied.Statement.{statement}
 use Rattle.seats.proofs.saving.occupied.Tie as tie
 

@@ -6,7 +6,7 @@ use Rattle.sets.proofs.Walks.{lowest-below, next-lt, next-falls}
 use Rattle.graph.specs.Tables.{at}
 use Rattle.seats.specs.Images.{entry-bytes}
 use Rattle.seats.specs.ImageWork.{table-entries}
-use Rattle.seats.proofs.Listing.{valued}
+use Rattle.seats.proofs.AscendingEntries.{valued}
 use Rattle.seats.proofs.Written.{Unwritten, unwritten-all, unwritten-length}
 use Rattle.seats.proofs.MemberEntries.{member-room, member-written, members-written}
 use Rattle.seats.proofs.saving.put_table.Statement.{statement}

@@ -9,7 +9,7 @@ use Rattle.seats.specs.Seats.{may-use}
 use Rattle.seats.specs.Calls.{answered, checks, reply, judged, settle, perform}
 use Rattle.lists.specs.Settling as settling
 use Rattle.seats.specs.Reading.{read-answer}
-use Rattle.seats.proofs.Asking.{steps-ask}
+use Rattle.seats.proofs.AskMeaning.{steps-ask}
 use Rattle.seats.proofs.seating.ask.Statement.{statement}
 use Rattle.seats.proofs.seating.ask.Tie as tie
 

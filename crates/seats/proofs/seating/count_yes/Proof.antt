@@ -6,7 +6,7 @@ use mathlib.Core.Path.{ap, _∙_}
 use Prim.Native.Nat.{ℕ, _-_}
 use Rattle.seats.specs.Seats.{State}
 use Rattle.seats.specs.Reading.{state-of}
-use Rattle.seats.proofs.Asks.{counts, Counted, counted-none, counted-next, counted-all}
+use Rattle.seats.proofs.YesCount.{counts, Counted, counted-none, counted-next, counted-all}
 use Rattle.seats.proofs.seating.count_yes.Statement.{statement}
 use Rattle.seats.proofs.seating.count_yes.Tie as tie
 

@@ -9,7 +9,7 @@ use lib.ListN.{length}
 use Rattle.seats.specs.Records.{step}
 use Rattle.seats.specs.Reading.{read-state, read-filled}
 use Rattle.seats.proofs.Feeding.{Left, left-start, left-length, left-room, left-next, left-end}
-use Rattle.seats.proofs.Tapes.{before-end, at-end, part-is}
+use Rattle.seats.proofs.TapePlaces.{before-end, at-end, part-is}
 use Rattle.seats.proofs.tape.run.Statement.{statement}
 use Rattle.seats.proofs.tape.run.Tie as tie
 

@@ -1,4 +1,4 @@
--- What the functions of benchtape promise each other: how far a sitting has come with the bytes read so far.
+-- What the functions of benchtape promise each other: how far the program has come with the bytes read so far.
 use mathlib.Core.Bool.{true, false}
 use mathlib.Core.List.{List}
 use mathlib.Core.Path.{_≡_}
@@ -13,7 +13,7 @@ use Rattle.seats.specs.Tape.{fed, end-line}
 use Rattle.seats.specs.Reading.{read-state}
 use Rattle.benchtape.specs.declared.Read as read-enum
 use Rattle.benchtape.specs.declared.Read.the-variants as readings
-use Rattle.benchtape.specs.declared.Sitting as sitting-struct
+use Rattle.benchtape.specs.declared.Progress as progress-struct
 
 -- How many records are read at once, and how many bytes these are.
 abbrev pub chunk-records : ℕ
@@ -27,30 +27,30 @@ abbrev pub Within : read-enum.Read → List ℕ → Type 0
 Within (readings.Bytes n) buffer = Counts n buffer
 Within readings.Failed buffer = Unit {0}
 
--- The records so far and the state of a sitting.
-abbrev pub standing : sitting-struct.Sitting → ℕ × State
+-- The records so far and the state.
+abbrev pub standing : progress-struct.Progress → ℕ × State
 standing r = (r .count, read-state (r .state))
 
--- The last line of a sitting.
-abbrev pub last-line : sitting-struct.Sitting → List ℕ
+-- The last line.
+abbrev pub last-line : progress-struct.Progress → List ℕ
 last-line r = end-line (r .count) (edge-count (read-state (r .state) .graph))
 
--- The sitting r is s after these bytes: where nothing failed they are fed, and there may be more where they are a whole chunk; a failure ends it where it stood.
-pub record Answered (s : sitting-struct.Sitting) (bytes : List ℕ) (r : sitting-struct.Sitting) : Type 0 where
+-- The progress r is that of s after these bytes: where nothing failed they are fed, and there may be more where they are a whole chunk; a failure ends it where it stood.
+pub record Answered (s : progress-struct.Progress) (bytes : List ℕ) (r : progress-struct.Progress) : Type 0 where
   pub done : r .failed ≡ false → standing r ≡ fed (read-state (s .state)) (s .count) bytes .1
   pub bound : r .failed ≡ false → r .count < 2 ^ 64
   pub more : r .failed ≡ false → r .more ≡ eqb (length bytes) chunk-length
   pub kept : r .failed ≡ true → standing r ≡ standing s
   pub stopped : r .failed ≡ true → r .more ≡ false
 
--- The sitting stands where a tape, the bytes read so far, takes a fresh state; while there may be more, the tape ends where a record ends.
-pub record Reached (r : sitting-struct.Sitting) : Type 0 where
+-- The program stands where a tape, the bytes read so far, takes a fresh state; while there may be more, the tape ends where a record ends.
+pub record Reached (r : progress-struct.Progress) : Type 0 where
   pub tape : List ℕ
   pub stands : standing r ≡ fed fresh 0 tape .1
   pub whole : r .more ≡ true → length tape % record-length ≡ 0
 
--- The sitting r stands where some bytes after those of s take it; where there may be more, a chunk has been answered.
-pub record Proceeded (s r : sitting-struct.Sitting) : Type 0 where
+-- The progress r stands where some bytes after those of s take it; where there may be more, a chunk has been answered.
+pub record Proceeded (s r : progress-struct.Progress) : Type 0 where
   pub reached : Reached r
   pub grown : r .more ≡ true → r .count ≡ s .count + chunk-records
   pub bound : r .more ≡ true → r .count < 2 ^ 64

@@ -18,8 +18,8 @@ use Rattle.graph.proofs.Tables.{at-replicate, put-test, put-table, table-ext}
 use Rattle.graph.specs.Conflicts.{conflict}
 use Rattle.graph.specs.Invariants.{Table, Paired}
 use Rattle.seats.specs.Images.{Entry, listed-from, stored-pairs, some, pair-place}
-use Rattle.seats.proofs.Entries.{Each, each-map, each-zip}
-use Rattle.seats.proofs.Listing.{Rising, rising-by, some-one, some-map, each-some, each-listed, listed-there, relisted}
+use Rattle.seats.proofs.EntryBytes.{Each, each-map, each-zip}
+use Rattle.seats.proofs.AscendingEntries.{Rising, rising-by, some-one, some-map, each-some, each-listed, listed-there, relisted}
 
 -- ---- pairs put into a table
 -- The entry is that of a and b.

@@ -1,4 +1,4 @@
--- `sit` meets its contract. The invariant: the sitting stands where the bytes read so far lead, and there may be more of them.
+-- `answer_all` meets its contract. The invariant: the program stands where the bytes read so far lead, and there may be more of them.
 -- The measure: how many records more 64 bits can count.
 -- Assumes nothing.
 use borrow.Author.Needs.{needs}
@@ -7,16 +7,16 @@ use mathlib.Core.Bool.{true}
 use mathlib.Core.Path.{_≡_, refl}
 use Prim.Native.Nat.{_-_, _^_, _<_}
 use native.Mathlib.Omega.{arith}
-use Rattle.benchtape.specs.Sitting.{Reached}
-use Rattle.benchtape.proofs.Sittings.{started}
-use Rattle.benchtape.proofs.sit.Statement.{statement}
-use Rattle.benchtape.proofs.sit.Tie as tie
+use Rattle.benchtape.specs.Progress.{Reached}
+use Rattle.benchtape.proofs.Going.{started}
+use Rattle.benchtape.proofs.answer_all.Statement.{statement}
+use Rattle.benchtape.proofs.answer_all.Tie as tie
 
 abbrev Inv-loop : tie.InvT-loop
-Inv-loop sitting₀ sitting = (Reached sitting) × (sitting .more ≡ true) × (sitting .count < 2 ^ 64)
+Inv-loop progress₀ progress = (Reached progress) × (progress .more ≡ true) × (progress .count < 2 ^ 64)
 
 abbrev μ-loop : tie.MeasureT-loop
-μ-loop sitting₀ sitting = 2 ^ 64 - sitting .count
+μ-loop progress₀ progress = 2 ^ 64 - progress .count
 
 fresh-requires : tie.Need-fresh-requires Inv-loop μ-loop
 fresh-requires c κs = search needs
@@ -44,8 +44,8 @@ loop-again c =
     let m = not-false _ (c .if1 .left) in
     (p .reached, m, p .bound m)
 
-pub sit-spec : {M : Type 1} → statement M
-sit-spec =
+pub answer-all-spec : {M : Type 1} → statement M
+answer-all-spec =
     tie.close
     (tie.spec
     Inv-loop

@@ -1,4 +1,4 @@
--- `seats::deciding::changed` meets its contract: a refusal before or after closing leaves the roles and the table, and what passes has those after the change.
+-- `seats::deciding::try_change` meets its contract: a refusal before or after closing leaves the roles and the table, and what passes has those after the change.
 -- Assumes nothing.
 use mathlib.Core.List.{_++_}
 use mathlib.Core.Path.{_≡_, sym, ap, _∙_}
@@ -12,8 +12,8 @@ use Rattle.seats.specs.Calls.{with-graph, after}
 use Rattle.seats.specs.Reading.{state-of, read-answer}
 use Rattle.seats.specs.Working.{after-checks}
 use Rattle.seats.proofs.Changing.{before-checks, next, settled-refused, settled-passed}
-use Rattle.seats.proofs.deciding.changed.Statement.{statement}
-use Rattle.seats.proofs.deciding.changed.Tie as tie
+use Rattle.seats.proofs.deciding.try_change.Statement.{statement}
+use Rattle.seats.proofs.deciding.try_change.Tie as tie
 
 attempt-requires : tie.Need-attempt-requires
 attempt-requires c κs = tt
@@ -79,8 +79,8 @@ returns-3 c =
     let j = c .before .before in
     settled-passed _ _ (decided j) (c .enum-told2 .given .1) (ap (λ (h : Graph). record { graph = h; seats = j .before .before .before .before .before .before .before .before .before .args .seats .now }) (moved j))
 
-pub changed-spec : {M : Type 1} → statement M
-changed-spec =
+pub try-change-spec : {M : Type 1} → statement M
+try-change-spec =
     tie.close
     (tie.spec
     attempt-requires

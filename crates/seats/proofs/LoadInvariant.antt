@@ -27,10 +27,10 @@ use Rattle.seats.specs.Invariants.{Invariant}
 use Rattle.seats.specs.Images.{Entry, distance, Contents, counts-at, contents, keys, stored, end-sets, restored, content-checks, loaded, load}
 use Rattle.graph.proofs.Refusals.{Passes, closed-from}
 use Rattle.seats.proofs.Numbers.{number-lt}
-use Rattle.seats.proofs.Entries.{Each, each-map, entries-lt}
-use Rattle.seats.proofs.Listing.{there, some-one}
-use Rattle.seats.proofs.Stores.{set-holds, length-stored, stored-holds, stored-absent, member-keys, keys-lt}
-use Rattle.seats.proofs.Pairs.{pairs-paired}
+use Rattle.seats.proofs.EntryBytes.{Each, each-map, entries-lt}
+use Rattle.seats.proofs.AscendingEntries.{there, some-one}
+use Rattle.seats.proofs.StoredEntries.{set-holds, length-stored, stored-holds, stored-absent, member-keys, keys-lt}
+use Rattle.seats.proofs.StoredPairs.{pairs-paired}
 use Rattle.seats.proofs.LoadFacts.{found, accepted, Ordered, ordered}
 
 zeros-lt : (n w i : ℕ) → at (replicate n 0) i < 2 ^ w

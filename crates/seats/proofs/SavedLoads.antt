@@ -26,10 +26,10 @@ use Rattle.seats.specs.Seats.{State, seat-count, assigned, pair-seat}
 use Rattle.seats.specs.Images.{Entry, role-entries, conflict-entries, seat-entries, contents-of, image, keys, stored, end-sets, restored, pair-place, entry-checks, content-checks, loaded, unless-refused, load-contents, load}
 use Rattle.seats.specs.Invariants.{Invariant}
 use Rattle.graph.proofs.Refusals.{Passes, whole, verdict-passes, closed-goes}
-use Rattle.seats.proofs.Entries.{Each, each-map}
-use Rattle.seats.proofs.Listing.{valued, rising-by, some-one, each-listed, rising-listed, listed-there}
-use Rattle.seats.proofs.Stores.{filled, member-keys, keys-lt, listed-stored}
-use Rattle.seats.proofs.Pairs.{Pair, pair-number, pair-at, has-pair, listed-pairs}
+use Rattle.seats.proofs.EntryBytes.{Each, each-map}
+use Rattle.seats.proofs.AscendingEntries.{valued, rising-by, some-one, each-listed, rising-listed, listed-there}
+use Rattle.seats.proofs.StoredEntries.{filled, member-keys, keys-lt, listed-stored}
+use Rattle.seats.proofs.StoredPairs.{Pair, pair-number, pair-at, has-pair, listed-pairs}
 use Rattle.seats.proofs.ImageLength.{role-keys, conflict-pairs, roles-bound, seats-bound, conflicts-bound}
 use Rattle.seats.proofs.ImageReading.{Fits, parts-load}
 use Rattle.seats.proofs.LoadFacts.{ordered-passes}

@@ -18,10 +18,10 @@ use Rattle.seats.specs.Bytes.{bytes-of, number-at, Bytes}
 use Rattle.seats.specs.Seats.{State, seat-count}
 use Rattle.seats.specs.Images.{Entry, role-entries, conflict-entries, seat-entries, Contents, trailer-length, distance, trailer, parts, image, far-at, counts-at, contents, keys, stored, end-sets, restored, loaded, load}
 use Rattle.seats.proofs.Numbers.{bytes-of-number}
-use Rattle.seats.proofs.Entries.{Each, each-map, each-zip, length-entries-at, entry-bytes-at}
-use Rattle.seats.proofs.Listing.{there, each-some}
-use Rattle.seats.proofs.Stores.{filled, member-keys, stored-each, stored-other, stored-absent, stored-listed}
-use Rattle.seats.proofs.Pairs.{pairs-listed}
+use Rattle.seats.proofs.EntryBytes.{Each, each-map, each-zip, length-entries-at, entry-bytes-at}
+use Rattle.seats.proofs.AscendingEntries.{there, each-some}
+use Rattle.seats.proofs.StoredEntries.{filled, member-keys, stored-each, stored-other, stored-absent, stored-listed}
+use Rattle.seats.proofs.StoredPairs.{pairs-listed}
 use Rattle.seats.proofs.LoadFacts.{found, accepted, Ordered, ordered}
 
 -- ---- bytes that were read are written back

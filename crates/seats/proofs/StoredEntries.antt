@@ -16,8 +16,8 @@ use Rattle.sets.proofs.Laws.{member-empty, member-union, member-single, union-l
 use Rattle.graph.specs.Tables.{at}
 use Rattle.graph.proofs.Tables.{table-ext}
 use Rattle.seats.specs.Images.{Entry, listed-from, keys, stored, some}
-use Rattle.seats.proofs.Entries.{Each, each-map, each-zip}
-use Rattle.seats.proofs.Listing.{valued, there, Rising, not-there, some-one, none-each, each-listed, rising-listed, listed-there, relisted}
+use Rattle.seats.proofs.EntryBytes.{Each, each-map, each-zip}
+use Rattle.seats.proofs.AscendingEntries.{valued, there, Rising, not-there, some-one, none-each, each-listed, rising-listed, listed-there, relisted}
 
 -- ---- one entry of a table
 -- The entry of a table is not the empty set.

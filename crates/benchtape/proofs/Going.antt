@@ -1,4 +1,4 @@
--- How a sitting goes on: a failure ends it where it stood, and bytes that are answered lengthen the tape that it has read.
+-- How the program goes on: a failure ends it where it stood, and bytes that are answered lengthen the tape that it has read.
 -- Assumes nothing.
 use mathlib.Core.Bool.{Bool, true, false}
 use mathlib.Core.List.{List, [], _++_}
@@ -19,8 +19,8 @@ use Rattle.seats.specs.Reading.{read-state, read-filled}
 use Rattle.seats.proofs.TapeRecords.{count-records, fed-none, fed-append}
 use Rattle.seats.proofs.Written.{fill-written}
 use Rattle.seats.proofs.Feeding.{Told, feed-told}
-use Rattle.benchtape.specs.Sitting.{chunk-length, Within, standing, Answered, Reached, Proceeded}
-use Rattle.benchtape.specs.declared.Sitting.{Sitting}
+use Rattle.benchtape.specs.Progress.{chunk-length, Within, standing, Answered, Reached, Proceeded}
+use Rattle.benchtape.specs.declared.Progress.{Progress}
 use Rattle.benchtape.specs.declared.Read as read-enum
 use Rattle.benchtape.specs.declared.Read.the-variants.{Bytes}
 use Rattle.seats.specs.declared.State as state-struct
@@ -53,11 +53,11 @@ unfolding edge-count edge below present ordinary effective
 edges-of s = refl
 
 -- A failure.
-pub stopped : (s : Sitting) (bytes : List ℕ) → Answered s bytes (record { state = s .state; count = s .count; more = false; failed = true })
+pub stopped : (s : Progress) (bytes : List ℕ) → Answered s bytes (record { state = s .state; count = s .count; more = false; failed = true })
 stopped s bytes = record { done = never; bound = never; more = never; kept = λ e. refl; stopped = λ e. refl }
 
 -- The bytes are fed.
-pub answered : {s : Sitting} {bytes m : List ℕ} {n count : ℕ} {state : state-struct.State}
+pub answered : {s : Progress} {bytes m : List ℕ} {n count : ℕ} {state : state-struct.State}
     → Told (read-state (s .state)) (s .count) bytes n m (count, read-state state)
     → Answered s bytes (record { state = state; count = count; more = eqb (length bytes) chunk-length; failed = false })
 answered t = record { done = λ e. t .rest; bound = λ e. t .bound; more = λ e. refl; kept = λ e. never (sym e); stopped = λ e. never (sym e) }
@@ -70,7 +70,7 @@ started state e = record {
   whole = λ e. refl;
 }
 
-module _ (s r : Sitting) (bytes : List ℕ) (at : Reached s) (on : s .more ≡ true) (a : Answered s bytes r) where
+module _ (s r : Progress) (bytes : List ℕ) (at : Reached s) (on : s .more ≡ true) (a : Answered s bytes r) where
   lengthened : r .failed ≡ false → standing r ≡ fed fresh 0 (at .tape ++ bytes) .1
   lengthened e =
       a .done e

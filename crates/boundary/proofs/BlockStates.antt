@@ -25,10 +25,10 @@ use Rattle.seats.specs.Calls.{Call, change, declare, lift, assign, unassign, as
 use Rattle.seats.specs.Records.{Decoded, malformed, well-formed, decode, perform-decoded, step}
 use Rattle.seats.specs.Images.{least-image, end-sets, Entry, Contents, Counts, distance, far-at, counts-at, contents, stored-pairs, restored, entry-checks, content-checks, Loaded, loaded, not-loaded, unless-refused, load-contents, load-trailer, load, settle-load, load-over}
 use Rattle.seats.specs.Lists.{answers, end}
-use Rattle.seats.proofs.Stores.{length-stored}
+use Rattle.seats.proofs.StoredEntries.{length-stored}
 use Rattle.boundary.specs.Block.{state-in, words-of, holding, of-state, code-of}
 use Rattle.boundary.specs.Keeper.{given, call-block, load-block, fresh-block}
-use Rattle.boundary.proofs.Laid.{table-whole, regroup}
+use Rattle.boundary.proofs.BlockWords.{table-whole, regroup}
 
 -- Each table of the state has its 64 entries.
 pub record Sized (s : State) : Type 0 where
@@ -165,14 +165,14 @@ unfolding call-block of-state given
 call-code W l n = rw (le-leb 193 (length W) n)
 
 -- A list of records on one block gives the codes of the definitions' answers, and the block then holds the state at the list's end.
-pub sitting : (W : List ℕ) (l : List (List ℕ)) → 193 ≤ length W
+pub list-on-block : (W : List ℕ) (l : List (List ℕ)) → 193 ≤ length W
     → (run call-block W l .0 ≡ map code-of (answers (state-in W) l)) × (state-in (run call-block W l .1) ≡ end (state-in W) l)
 unfolding run answers end
-sitting W [] n = (refl, refl)
-sitting W (r ∷ l) n =
+list-on-block W [] n = (refl, refl)
+list-on-block W (r ∷ l) n =
     let e = call-holds W r n in
     let m : 193 ≤ length (call-block W r .1) = omega (arith, call-length W r n) in
-    let (p, q) = sitting (call-block W r .1) l m in (
+    let (p, q) = list-on-block (call-block W r .1) l m in (
       ap₂ (λ (a : ℕ) (k : List ℕ). a ∷ k) (call-code W r n) (p ∙ ap (λ (s : State). map code-of (answers s l)) e),
       q ∙ ap (λ (s : State). end s l) e,
     )

@@ -10,7 +10,7 @@ use native.Mathlib.Omega.{arith}
 use lib.Dec.{T, eqb, leb, leb→le, le→leb}
 use Rattle.sets.proofs.Tests.{either, or-left, or-right, passes, fails, decide, equal-test, test-equal}
 use Rattle.seats.specs.Images.{Entry, listed-from, some, unordered}
-use Rattle.seats.proofs.Entries.{Each, each-map}
+use Rattle.seats.proofs.EntryBytes.{Each, each-map}
 
 -- The entry of k and its value.
 abbrev pub valued : (ℕ → ℕ) → ℕ → Entry

@@ -17,7 +17,7 @@ use Rattle.seats.specs.Invariants.{Invariant}
 use Rattle.seats.proofs.Settling.{settled}
 use Rattle.seats.proofs.Numbers.{number-lt}
 use Rattle.graph.proofs.Edits.{Fits}
-use Rattle.seats.proofs.Keeping.{FitsCall, call-keeps}
+use Rattle.seats.proofs.CallInvariant.{FitsCall, call-keeps}
 
 -- What is decoded carries sets of their width.
 unfoldable pub FitsDecoded : Decoded → Type 0

@@ -1,4 +1,4 @@
--- `seats::searches::holder` meets its contract: it goes through the seats from 0 on.
+-- `seats::searches::seat_with_role` meets its contract: it goes through the seats from 0 on.
 -- Assumes nothing.
 use borrow.Author.Needs.{needs}
 use mathlib.Core.Bool.{Bool}
@@ -9,8 +9,8 @@ use Rattle.sets.specs.Sets.{member}
 use Rattle.graph.specs.Tables.{at}
 use Rattle.seats.specs.Seats.{seat-count}
 use Rattle.seats.proofs.Scanning.{Scanned, scanned-none, scanned-next, scanned-hit, scanned-miss}
-use Rattle.seats.proofs.searches.holder.Statement.{statement}
-use Rattle.seats.proofs.searches.holder.Tie as tie
+use Rattle.seats.proofs.searches.seat_with_role.Statement.{statement}
+use Rattle.seats.proofs.searches.seat_with_role.Tie as tie
 
 -- Seat i has role r.
 abbrev has : List ℕ → ℕ → ℕ → Bool
@@ -56,8 +56,8 @@ loop-again c =
 returns-2 : tie.Need-returns-2 Inv-loop μ-loop
 returns-2 c = scanned-miss (c .before .loop .inv) (c .loop-test .left)
 
-pub holder-spec : {M : Type 1} → statement M
-holder-spec =
+pub seat-with-role-spec : {M : Type 1} → statement M
+seat-with-role-spec =
     tie.close
     (tie.spec
     Inv-loop
