@@ -19,7 +19,7 @@ use Rattle.graph.specs.Invariants.{Formed}
 use Rattle.graph.proofs.Order.{below-max, not-above-max, edge-below}
 use Rattle.graph.proofs.Closing.{by-edge, of-top, counted, count-join, count-top, closed-by}
 use Rattle.graph.proofs.Heights.{order}
-use Rattle.graph.proofs.Drawn.{in-direct, direct-or-junior, effective-lt, below-member, beyond-empty}
+use Rattle.graph.proofs.DrawnSets.{in-direct, direct-or-junior, effective-lt, below-member, beyond-empty}
 use Rattle.graph.proofs.Edits.{added}
 use Rattle.graph.proofs.Changes.{after, formed-after, effective-after}
 

@@ -20,7 +20,7 @@ use Rattle.graph.specs.Invariants.{Formed}
 use Rattle.graph.proofs.Order.{Edge, edge-below}
 use Rattle.graph.proofs.Closing.{Laid, count-join, closed-own, closed-down, closed-formed}
 use Rattle.graph.proofs.Heights.{below-apart, tall, tall-lt}
-use Rattle.graph.proofs.Drawn.{in-direct, direct-or-junior, effective-lt, below-member, counted-below, closed-within}
+use Rattle.graph.proofs.DrawnSets.{in-direct, direct-or-junior, effective-lt, below-member, counted-below, closed-within}
 use Rattle.graph.proofs.Edits.{removed-below, edge-removed, left-below, role-removed}
 
 -- The drawing that a change makes.

@@ -25,7 +25,7 @@ use Rattle.graph.proofs.Tables.{at-table, length-table, table-ext, set-
 use Rattle.graph.proofs.Gathering.{gathered-cong}
 use Rattle.graph.proofs.Closing.{closed-at, closed-length, by-edge, of-top, counted, counted-height, counts-rise}
 use Rattle.graph.proofs.Order.{is-end-lt}
-use Rattle.graph.proofs.Drawings.{ordinary-member}
+use Rattle.graph.proofs.DrawingCode.{ordinary-member}
 use Rattle.graph.proofs.Acyclic.{acyclic}
 
 module _ {d : Drawing} {roles : ℕ} (b : roles < 2 ^ role-count) {D J : List ℕ} (h : Holds d roles D J) where

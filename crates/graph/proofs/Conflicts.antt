@@ -96,8 +96,8 @@ pair-test p q a b = same-test _ _ there back
         join (eqb (min p q) (min a b)) (eqb (max p q) (max a b)) (equal-test x) (equal-test y)
 
 -- ---- declaring and lifting
-module _ {C : List ℕ} (w : Paired C) (a b : ℕ) (ka : a < privilege-count) (kb : b < privilege-count) where
-  lower : min a b < privilege-count
+module _ {n : ℕ} {C : List ℕ} (w : Paired n C) (a b : ℕ) (ka : a < n) (kb : b < n) where
+  lower : min a b < n
   lower = omega arith
 
   -- After declaring, the declared pairs are the former ones and that of a and b.
@@ -125,7 +125,7 @@ module _ {C : List ℕ} (w : Paired C) (a b : ℕ) (ka : a < privilege-count) (k
       ap (λ (x : Bool). ltb (min p q) (max p q) && x) (take-out-test (w .table) (min a b) (max a b) lower (min p q) (max p q) ∙ ap (λ (x : Bool). member (max p q) (at C (min p q)) && not x) (pair-test p q a b))
       ∙ and-regroup (ltb (min p q) (max p q)) (member (max p q) (at C (min p q))) (not (same-pair p q a b))
 
-  pub declare-paired : a ≢ b → Paired (declare C a b)
+  pub declare-paired : a ≢ b → Paired n (declare C a b)
   unfolding declare
   declare-paired d = record {
     table = put-table (w .table) (min a b) (max a b) lower (omega arith);
@@ -136,16 +136,16 @@ module _ {C : List ℕ} (w : Paired C) (a b : ℕ) (ka : a < privilege-count) (k
         ];
   }
 
-  pub lift-paired : Paired (lift C a b)
+  pub lift-paired : Paired n (lift C a b)
   unfolding lift
   lift-paired = record {
     table = take-out-table (w .table) (min a b) (max a b) lower;
     ascending = λ p q m. w .ascending p q (both (member q (at C p)) (not (eqb p (min a b) && eqb q (max a b))) (subst T (take-out-test (w .table) (min a b) (max a b) lower p q) m) .0);
   }
 
--- Both privileges of a conflict are privilege numbers.
-pub conflict-lt : {C : List ℕ} → Paired C → (p q : ℕ) → T (conflict C p q) → q < privilege-count
-conflict-lt {C} w p q t = member-lt privilege-count q (at C p) (w .table .entry-lt p) (conflict-parts C p q t .1)
+-- Both numbers of a pair are below the count.
+pub conflict-lt : {n : ℕ} {C : List ℕ} → Paired n C → (p q : ℕ) → T (conflict C p q) → q < n
+conflict-lt {n} {C} w p q t = member-lt n q (at C p) (w .table .entry-lt p) (conflict-parts C p q t .1)
 
 -- A declared pair is a conflict of the one and the other, in one order.
 pub declared-parts : (C : List ℕ) (p q : ℕ) → T (declared C p q) → T (conflict C p q) ⊎ T (conflict C q p)

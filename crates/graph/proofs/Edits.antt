@@ -20,7 +20,7 @@ use Rattle.graph.proofs.Refusals.{Passes, number-lt, no-end-in, not-equ
 use Rattle.graph.specs.Working.{has-role, JoinsLaid}
 use Rattle.graph.proofs.Closing.{DirectsLaid, Laid, closed-formed}
 use Rattle.graph.proofs.Heights.{order, ordinary-below, raised, ordered, edges-laid}
-use Rattle.graph.proofs.Drawn.{direct-laid}
+use Rattle.graph.proofs.DrawnSets.{direct-laid}
 use Rattle.graph.proofs.Placing.{given-more, one-if, one-passes, one-fails, one-le, at-or-below-cases, at-itself, at-or-below-up, place-laid, unplaced-laid, own-laid, one-more}
 
 -- The sets that a change carries have their width.

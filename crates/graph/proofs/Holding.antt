@@ -24,7 +24,7 @@ use Rattle.graph.proofs.Tables.{at-table, length-table, at-end}
 use Rattle.graph.proofs.Order.{present-cases, edge-below, above-min}
 use Rattle.graph.proofs.Heights.{order, edges-laid}
 use Rattle.graph.proofs.Refusals.{Passes, parts, passed-passes, number-lt}
-use Rattle.graph.proofs.Drawings.{seniors-cover, directs-table}
+use Rattle.graph.proofs.DrawingCode.{seniors-cover, directs-table}
 use Rattle.graph.proofs.Edits.{Fits, joins-laid}
 
 -- ---- sets as the code makes them

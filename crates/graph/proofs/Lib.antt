@@ -1,13 +1,26 @@
+-- ---- tables and loops over them
 pub mod Tables
 pub mod PrivilegeTables
 pub mod Emptiness
-pub mod Order
+pub mod Loops
+pub mod ExchangeLoops
+-- ---- checks and verdicts
 pub mod Refusals
+pub mod Judging
+-- ---- conflicts
 pub mod Conflicts
+-- ---- the order and what is drawn
+pub mod Order
+pub mod Heights
+pub mod DrawnSets
+pub mod DrawingCode
+pub mod Searches
+-- ---- closing
 pub mod Gathering
 pub mod Closing
-pub mod Heights
-pub mod Drawn
+pub mod Acyclic
+pub mod Memo
+-- ---- the edits
 pub mod Placing
 pub mod Edits
 pub mod Holding
@@ -15,11 +28,5 @@ pub mod Closable
 pub mod Attempts
 pub mod Changes
 pub mod Adding
-pub mod Drawings
-pub mod Loops
-pub mod Searches
-pub mod Acyclic
-pub mod Memo
-pub mod Stores
-pub mod Judging
+-- ---- document 01's bench graph
 pub mod Examples

@@ -21,7 +21,7 @@ use Rattle.graph.proofs.Order.{not-above-max, edge-below}
 use Rattle.graph.specs.Working.{has-role, JoinsLaid}
 use Rattle.graph.proofs.Closing.{DirectsLaid}
 use Rattle.graph.proofs.Heights.{order, ordinary-below, raised, edges-laid}
-use Rattle.graph.proofs.Drawn.{direct-laid}
+use Rattle.graph.proofs.DrawnSets.{direct-laid}
 
 -- ---- direct privileges
 -- Direct sets stay laid under more roles.

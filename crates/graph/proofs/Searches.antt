@@ -1,4 +1,4 @@
--- What the loops of `refusing` keep while they visit the members of a set, lowest first, and what they find.
+-- What the loops of `searching` keep while they visit the members of a set, lowest first, and what they find.
 -- Assumes nothing.
 use mathlib.Core.Path.{_≡_, refl, sym, ap, ap₂, _∙_, subst}
 use mathlib.Core.Bool.{Bool, true, false, not, _&&_, _||_, or-true}
@@ -22,7 +22,7 @@ use Rattle.graph.specs.Graph.{Graph, role-count, min-role, max-role, ord
 use Rattle.graph.specs.Conflicts.{conflict}
 use Rattle.graph.specs.Drawing.{below}
 use Rattle.graph.specs.Refusing.{at-or-below}
-use Rattle.graph.proofs.Drawings.{ordinary-member, member-with, below-tests}
+use Rattle.graph.proofs.DrawingCode.{ordinary-member, member-with, below-tests}
 use Rattle.graph.proofs.Loops.{Left, left-all, left-lowest, left-falls}
 
 -- The lowest number that passes is below k where some number below k passes.

@@ -28,9 +28,9 @@ pub record Distinct (g : Graph) : Type 0 where
   pub non-empty : (r : ℕ) → T (ordinary g r) → effective g r ≢ empty
   pub different : (r s : ℕ) → T (ordinary g r) → T (ordinary g s) → effective g r ≡ effective g s → r ≡ s
 
--- A conflict is of two privileges, and stands under its lower one.
-pub record Paired (C : List ℕ) : Type 0 where
-  pub table : Table privilege-count privilege-count C
+-- Pairs of two numbers below n, each of which stands under its lower one.
+pub record Paired (n : ℕ) (C : List ℕ) : Type 0 where
+  pub table : Table n n C
   pub ascending : (p q : ℕ) → T (member q (at C p)) → p < q
 
 -- No ordinary role holds a declared pair: refusal 29 finds nothing.
@@ -41,5 +41,5 @@ PairFree g = (r : ℕ) → T (ordinary g r) → T (holds-pair (g .conflicts) (ef
 pub record Kept (g : Graph) : Type 0 where
   pub formed : Formed g
   pub distinct : Distinct g
-  pub paired : Paired (g .conflicts)
+  pub paired : Paired privilege-count (g .conflicts)
   pub pair-free : PairFree g

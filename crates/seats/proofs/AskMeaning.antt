@@ -13,7 +13,7 @@ use Rattle.sets.proofs.Members.{in-gather, gather-in}
 use Rattle.graph.specs.Graph.{role-count, privilege-count, effective}
 use Rattle.graph.specs.Tables.{at}
 use Rattle.graph.proofs.Tables.{entry-in}
-use Rattle.graph.proofs.Drawn.{Reached, effective-iff, effective-lt}
+use Rattle.graph.proofs.DrawnSets.{Reached, effective-iff, effective-lt}
 use Rattle.graph.proofs.Refusals.{Passes}
 use Rattle.seats.specs.Bytes.{number-at}
 use Rattle.seats.specs.Seats.{State, seat-count, assigned, held, may-use}

@@ -90,7 +90,7 @@ unfolding ordinary effective
 distinct-with g C d = record { non-empty = d .non-empty; different = d .different }
 
 -- A pair that a set holds after declaring is a former one, or that of a and b.
-new-pair : {C : List ℕ} → Paired C → (a b : ℕ) → a < privilege-count → b < privilege-count → a ≢ b → (x : ℕ)
+new-pair : {C : List ℕ} → Paired privilege-count C → (a b : ℕ) → a < privilege-count → b < privilege-count → a ≢ b → (x : ℕ)
     → T (holds-pair (conflicts.declare C a b) x) → T (holds-pair C x) ⊎ T (holds-both a b x)
 unfolding holds-both
 new-pair {C} w a b ka kb d x t =
@@ -136,7 +136,7 @@ declare-keeps s a b v (na, (nb, (d, (_, (t29, (t30, _)))))) =
     }
 
 -- A pair that a set holds after lifting is a former one.
-old-pair : {C : List ℕ} → Paired C → (a b : ℕ) → a < privilege-count → b < privilege-count → (x : ℕ) → T (holds-pair (conflicts.lift C a b) x) → T (holds-pair C x)
+old-pair : {C : List ℕ} → Paired privilege-count C → (a b : ℕ) → a < privilege-count → b < privilege-count → (x : ℕ) → T (holds-pair (conflicts.lift C a b) x) → T (holds-pair C x)
 old-pair {C} w a b ka kb x t =
     pair-more (conflicts.lift C a b) C x x (λ p m. m)
     (λ p q u.

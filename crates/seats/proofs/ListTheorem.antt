@@ -16,7 +16,7 @@ use Rattle.graph.specs.Graph.{max-role, is-end, ordinary, present, effective}
 use Rattle.graph.specs.Conflicts.{declared, holds-pair}
 use Rattle.graph.specs.Drawing.{edge}
 use Rattle.graph.proofs.Order.{Edge, is-end-lt, lt-is-end, present-cases, end-present, ordinary-present, path-iff-below, no-circle, path-iff-included, fewest}
-use Rattle.graph.proofs.Drawn.{Reached}
+use Rattle.graph.proofs.DrawnSets.{Reached}
 use Rattle.graph.proofs.Conflicts.{pair-holds, conflict-lt, declared-parts}
 use Rattle.seats.specs.Bytes.{Bytes}
 use Rattle.seats.specs.Seats.{State, assigned, held, may-use, pair-seat}

@@ -17,7 +17,7 @@ use Rattle.sets.proofs.Walks.{lowest-in, lowest-below, lowest-of, member-next}
 use Rattle.graph.specs.Tables.{at}
 use Rattle.graph.specs.Graph.{Graph, ordinary, effective, privilege-count}
 use Rattle.graph.specs.Conflicts.{conflict}
-use Rattle.graph.proofs.Drawings.{ordinary-member}
+use Rattle.graph.proofs.DrawingCode.{ordinary-member}
 use Rattle.seats.specs.Bytes.{bytes-of}
 use Rattle.seats.specs.Seats.{State}
 use Rattle.seats.specs.Written.{Written}

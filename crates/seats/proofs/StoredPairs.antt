@@ -80,7 +80,7 @@ module _ (l : List Entry) (h : Each Pair l) where
   pairs-in a b t = subst T (sym (member-pairs a b l none-table small)) (or-right (member b (at none a)) (some (pair-of a b) l) t)
 
   -- A conflict table made of entries.
-  pub pairs-paired : Paired (stored-pairs l none)
+  pub pairs-paired : Paired privilege-count (stored-pairs l none)
   pairs-paired = record {
     table = pairs-table l none-table small;
     ascending = λ p q t. (
@@ -122,7 +122,7 @@ module _ (l : List Entry) (h : Each Pair l) where
           equal-test z
 
 -- The conflicts that a table lists make it again.
-pub listed-pairs : (C : List ℕ) → Paired C → stored-pairs (listed-from 0 (privilege-count * privilege-count) (has-pair C) pair-at) none ≡ C
+pub listed-pairs : (C : List ℕ) → Paired privilege-count C → stored-pairs (listed-from 0 (privilege-count * privilege-count) (has-pair C) pair-at) none ≡ C
 unfolding conflict
 listed-pairs C v =
     table-ext privilege-count (stored-pairs l none) C (made .table .whole) (v .table .whole)
@@ -140,7 +140,7 @@ listed-pairs C v =
     pairs : Each Pair l
     pairs = each-listed (has-pair C) pair-at Pair 0 (privilege-count * privilege-count) (λ k q t. (apart k t .0, omega arith))
 
-    made : Paired (stored-pairs l none)
+    made : Paired privilege-count (stored-pairs l none)
     made = pairs-paired l pairs
 
     to : (a b : ℕ) → T (member b (at (stored-pairs l none) a)) → T (member b (at C a))

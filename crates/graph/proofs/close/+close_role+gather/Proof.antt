@@ -13,7 +13,7 @@ use Rattle.graph.specs.Reading.{read-set, sets-in}
 use Rattle.graph.specs.Graph.{role-count}
 use Rattle.graph.proofs.Acyclic.{height, height-falls}
 use Rattle.graph.proofs.Loops.{left-lowest, left-falls, left-alone, gathering-done}
-use Rattle.graph.proofs.Stores.{left-in}
+use Rattle.graph.proofs.ExchangeLoops.{left-in}
 use Rattle.graph.proofs.Memo.{role-closed, Joined, joined-none, joined-next}
 use borrow.Fn.Kinds.{In}
 use borrow.Fn.PlainCycle.{Measures, is, falls, and}

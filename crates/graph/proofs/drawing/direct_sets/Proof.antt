@@ -9,7 +9,7 @@ use Rattle.graph.specs.Tables.{at}
 use Rattle.graph.specs.Reading.{sets-in}
 use Rattle.graph.specs.Working.{less-juniors}
 use Rattle.graph.proofs.Tables.{length-table, at-table}
-use Rattle.graph.proofs.Drawings.{table-cong}
+use Rattle.graph.proofs.DrawingCode.{table-cong}
 use Rattle.graph.proofs.Loops.{left-falls, Filling, filling-none, filling-next, filling-done}
 use Rattle.graph.proofs.drawing.direct_sets.Statement.{statement}
 use Rattle.graph.proofs.drawing.direct_sets.Tie as tie

@@ -10,7 +10,7 @@ use Rattle.graph.specs.Reading.{drawn-from}
 use Rattle.graph.specs.Working.{less-juniors}
 use Rattle.graph.proofs.Tables.{length-table}
 use Rattle.graph.proofs.Loops.{left-lowest, left-falls, Filling, filling-none, filling-next, filling-done}
-use Rattle.graph.proofs.Drawings.{seniors-cover, juniors-table}
+use Rattle.graph.proofs.DrawingCode.{seniors-cover, juniors-table}
 use Rattle.graph.proofs.drawing.draw.Statement.{statement}
 use Rattle.graph.proofs.drawing.draw.Tie as tie
 

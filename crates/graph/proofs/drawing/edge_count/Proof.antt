@@ -3,7 +3,7 @@
 use borrow.Author.Needs.{needs}
 use mathlib.Core.Path.{_∙_}
 use Rattle.graph.specs.Reading.{drawn-from}
-use Rattle.graph.proofs.Drawings.{seniors-cover, edges-counted}
+use Rattle.graph.proofs.DrawingCode.{seniors-cover, edges-counted}
 use Rattle.graph.proofs.drawing.edge_count.Statement.{statement}
 use Rattle.graph.proofs.drawing.edge_count.Tie as tie
 

@@ -9,7 +9,7 @@ use Prim.Native.Nat.{ℕ}
 use Rattle.graph.specs.Graph.{role-count}
 use Rattle.graph.specs.Drawing.{below}
 use Rattle.graph.specs.Reading.{drawn-from}
-use Rattle.graph.proofs.Drawings.{between-tests}
+use Rattle.graph.proofs.DrawingCode.{between-tests}
 use Rattle.graph.proofs.Searches.{Search, starts, any-hit, goes-on, falls, any-miss}
 use Rattle.graph.proofs.drawing.has_between.Statement.{statement}
 use Rattle.graph.proofs.drawing.has_between.Tie as tie

@@ -6,7 +6,7 @@ use mathlib.Core.Logic.{inl, inr}
 use Rattle.sets.specs.Sets.{difference}
 use Rattle.graph.specs.Drawing.{roles-below}
 use Rattle.graph.specs.Reading.{drawn-from}
-use Rattle.graph.proofs.Drawings.{inherited-least, inherited-ordinary}
+use Rattle.graph.proofs.DrawingCode.{inherited-least, inherited-ordinary}
 use Rattle.graph.proofs.drawing.inherited.Statement.{statement}
 use Rattle.graph.proofs.drawing.inherited.Tie as tie
 

@@ -2,7 +2,7 @@
 -- Assumes nothing.
 use borrow.Author.Needs.{needs}
 use borrow.Author.Tests.{not-true, not-false}
-use Rattle.graph.proofs.Drawings.{direct-member}
+use Rattle.graph.proofs.DrawingCode.{direct-member}
 use Rattle.graph.proofs.drawing.is_direct.Statement.{statement}
 use Rattle.graph.proofs.drawing.is_direct.Tie as tie
 

@@ -3,7 +3,7 @@
 use borrow.Author.Needs.{needs}
 use mathlib.Core.Path.{_∙_}
 use Rattle.graph.specs.Reading.{drawn-from}
-use Rattle.graph.proofs.Drawings.{juniors-picked}
+use Rattle.graph.proofs.DrawingCode.{juniors-picked}
 use Rattle.graph.proofs.drawing.juniors_of.Statement.{statement}
 use Rattle.graph.proofs.drawing.juniors_of.Tie as tie
 

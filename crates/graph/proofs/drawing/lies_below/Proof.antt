@@ -4,7 +4,7 @@ use mathlib.Core.Path.{_∙_, ap, ap₂}
 use Rattle.sets.specs.Sets.{member, union, strictly-included}
 use Rattle.graph.specs.Graph.{effective}
 use Rattle.graph.specs.Reading.{drawn-from}
-use Rattle.graph.proofs.Drawings.{below-code}
+use Rattle.graph.proofs.DrawingCode.{below-code}
 use Rattle.graph.proofs.drawing.lies_below.Statement.{statement}
 use Rattle.graph.proofs.drawing.lies_below.Tie as tie
 

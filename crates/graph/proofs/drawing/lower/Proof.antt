@@ -4,7 +4,7 @@ use borrow.Author.Needs.{needs}
 use mathlib.Core.Path.{_∙_}
 use Rattle.graph.specs.Graph.{effective}
 use Rattle.graph.specs.Reading.{drawn-from}
-use Rattle.graph.proofs.Drawings.{found-ordinary, not-ordinary, below-top, below-ordinary, below-none}
+use Rattle.graph.proofs.DrawingCode.{found-ordinary, not-ordinary, below-top, below-ordinary, below-none}
 use Rattle.graph.proofs.drawing.lower.Statement.{statement}
 use Rattle.graph.proofs.drawing.lower.Tie as tie
 

@@ -6,7 +6,7 @@ use Rattle.graph.specs.Drawing.{roles-below}
 use Rattle.graph.specs.Reading.{drawn-from}
 use Rattle.graph.proofs.Tables.{at-replicate}
 use Rattle.graph.proofs.Loops.{left-lowest, left-falls, Filling, filling-none, filling-next, filling-done}
-use Rattle.graph.proofs.Drawings.{seniors-cover, lowers-table}
+use Rattle.graph.proofs.DrawingCode.{seniors-cover, lowers-table}
 use Rattle.graph.proofs.drawing.lowers.Statement.{statement}
 use Rattle.graph.proofs.drawing.lowers.Tie as tie
 

@@ -3,7 +3,7 @@
 use borrow.Author.Needs.{needs}
 use mathlib.Core.Path.{_∙_}
 use Rattle.graph.specs.Reading.{drawn-from}
-use Rattle.graph.proofs.Drawings.{seniors-cover, seniors-found}
+use Rattle.graph.proofs.DrawingCode.{seniors-cover, seniors-found}
 use Rattle.graph.proofs.drawing.seniors_of.Statement.{statement}
 use Rattle.graph.proofs.drawing.seniors_of.Tie as tie
 

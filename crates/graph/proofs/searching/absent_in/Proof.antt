@@ -10,7 +10,7 @@ use Rattle.sets.proofs.Counting.{lowest-cong}
 use Rattle.sets.proofs.Laws.{member-union, member-difference}
 use Rattle.graph.specs.Graph.{role-count, present}
 use Rattle.graph.specs.Reading.{drawn-from}
-use Rattle.graph.proofs.Drawings.{member-ends}
+use Rattle.graph.proofs.DrawingCode.{member-ends}
 use Rattle.graph.proofs.searching.absent_in.Statement.{statement}
 use Rattle.graph.proofs.searching.absent_in.Tie as tie
 

@@ -8,7 +8,7 @@ use Rattle.sets.specs.Sets.{member, intersection, lowest-member}
 use Rattle.sets.proofs.Counting.{lowest-cong}
 use Rattle.sets.proofs.Laws.{member-intersection}
 use Rattle.graph.specs.Graph.{role-count, is-end}
-use Rattle.graph.proofs.Drawings.{member-ends}
+use Rattle.graph.proofs.DrawingCode.{member-ends}
 use Rattle.graph.proofs.searching.end_in.Statement.{statement}
 use Rattle.graph.proofs.searching.end_in.Tie as tie
 

@@ -8,7 +8,7 @@ use Rattle.sets.specs.Sets.{member, union, difference, when}
 use Rattle.graph.specs.Tables.{at, table}
 use Rattle.graph.specs.Graph.{role-count}
 use Rattle.graph.proofs.Loops.{left-lowest, left-falls, Filling, filling-none, filling-next}
-use Rattle.graph.proofs.Stores.{filling-left, exchanged-done}
+use Rattle.graph.proofs.ExchangeLoops.{filling-left, exchanged-done}
 use Rattle.graph.specs.Reading.{read-set, sets-in}
 use Rattle.graph.proofs.table.exchange_sets.Statement.{statement}
 use Rattle.graph.proofs.table.exchange_sets.Tie as tie

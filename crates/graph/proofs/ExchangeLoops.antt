@@ -13,7 +13,7 @@ use Rattle.sets.proofs.Walks.{lowest-in, visited}
 use Rattle.graph.specs.Tables.{at, table}
 use Rattle.graph.specs.Graph.{role-count}
 use Rattle.graph.proofs.Loops.{Left, Filling, filling-done}
-use Rattle.graph.proofs.Drawings.{table-cong}
+use Rattle.graph.proofs.DrawingCode.{table-cong}
 
 -- The role that a turn takes is one of those left.
 pub left-in : {all rest n : ℕ} → Left role-count all rest → rest ≢ 0 → n ≡ lowest-member role-count rest → T (member n rest)
