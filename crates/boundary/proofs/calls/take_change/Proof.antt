@@ -7,7 +7,7 @@ use lib.ListN.{length-set}
 use Rattle.seats.specs.Reading.{state-of, read-answer}
 use Rattle.seats.proofs.Changing.{accepted-outcome, other-outcome}
 use Rattle.seats.proofs.Written.{written-length}
-use Rattle.boundary.specs.Block.{table-at, state-in}
+use Rattle.boundary.specs.Block.{conflicts-word, seats-word, table-at, state-in}
 use Rattle.boundary.proofs.BlockWords.{graph-put, holds-own}
 use Rattle.boundary.proofs.CodedAnswer.{gives}
 use Rattle.boundary.proofs.calls.take_change.Statement.{statement}
@@ -44,7 +44,7 @@ returns c =
     let s = d .before .before .before in
     let W = s .args .block .now in
     let r = d .changed .result in
-    let h = state-of (r .roles) (r .sets) (table-at W 65) (table-at W 129) in
+    let h = state-of (r .roles) (r .sets) (table-at W conflicts-word) (table-at W seats-word) in
     gives W (read-answer (r .answer)) h (c .code .ensures) (graph-put h W (s .pre) refl refl (c .before .before .before .put-table .ensures))
     (sym (accepted-outcome (state-in W) h (ap read-answer (c .before .before .before .before .before .before .before .enum-told .given .1))) ∙ d .changed .ensures)
 

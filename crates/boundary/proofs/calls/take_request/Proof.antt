@@ -5,7 +5,7 @@ use mathlib.Core.List.{List}
 use Prim.Native.Nat.{ℕ}
 use borrow.Author.Needs.{needs}
 use Rattle.seats.specs.Reading.{read-answer, decided}
-use Rattle.boundary.specs.Block.{state-in}
+use Rattle.boundary.specs.Block.{seats-word, state-in}
 use Rattle.boundary.specs.Working.{stored-at}
 use Rattle.boundary.proofs.BlockWords.{entries-stored}
 use Rattle.boundary.proofs.CodedAnswer.{gives}
@@ -32,7 +32,7 @@ returns c =
     let e = c .before .before .before .before .before .before .before .before .before .before .before in
     let W = e .before .before .before .args .block .now in
     let d = e .decided .result in
-    let stored = c .before .before .before .store-at2 .ensures ∙ ap (λ (k : List ℕ). stored-at k 129 (d .seat .number) (d .seat .set)) (c .before .before .before .before .before .before .before .store-at .ensures) in
+    let stored = c .before .before .before .store-at2 .ensures ∙ ap (λ (k : List ℕ). stored-at k seats-word (d .seat .number) (d .seat .set)) (c .before .before .before .before .before .before .before .store-at .ensures) in
     gives W (read-answer (d .answer)) (decided (state-in W) d) (c .code .ensures) (stored ∙ entries-stored W (d .conflict .number) (d .conflict .set) (d .seat .number) (d .seat .set) (e .before .before .before .pre)) (e .decided .ensures)
 
 pub take-request-spec : {M : Type 1} → statement M
