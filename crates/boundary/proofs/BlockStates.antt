@@ -1,14 +1,12 @@
 -- What a block holds after a call or a load is the state that the definitions leave, so that a list of calls on one block is the definitions' list.
 -- Assumes nothing.
 use mathlib.Core.Path.{_≡_, refl, sym, ap, ap₂, _∙_}
-use mathlib.Core.Bool.{Bool, true, false, cond, _&&_}
 use mathlib.Core.List.{List, [], _∷_, _++_, map}
 use Prim.Native.Nat.{ℕ, _-_, _≤_}
 use native.Mathlib.Omega.{arith}
 use borrow.Author.Tests.{le-leb}
 use lib.ListN.{length, drop, replicate, length-append, length-drop, length-set}
 use lib.Seq.{drop-drop, take-at, drop-at}
-use lib.Dec.{eqb, leb, ltb}
 use Rattle.lists.specs.Runs.{run}
 use Rattle.lists.proofs.Settling.{settle-keeps}
 use Rattle.graph.specs.Tables.{put, take-out}
@@ -23,10 +21,11 @@ use Rattle.graph.specs.Reading.{sets-in}
 use Rattle.seats.specs.Seats.{State, fresh}
 use Rattle.seats.specs.Calls.{Call, change, declare, lift, assign, unassign, ask, checks, with-graph, with-conflicts, with-seats, after, reply, judged, settle, perform}
 use Rattle.seats.specs.Records.{Decoded, malformed, well-formed, decode, perform-decoded, step}
-use Rattle.seats.specs.Images.{least-image, end-sets, Entry, Contents, Counts, distance, far-at, counts-at, contents, stored-pairs, restored, entry-checks, content-checks, Loaded, loaded, not-loaded, unless-refused, load-contents, load-trailer, load, settle-load, load-over}
+use Rattle.seats.specs.Images.{end-sets, Entry, Contents, stored-pairs, restored, entry-checks, content-checks, Loaded, loaded, not-loaded, unless-refused, load-contents, settle-load, load-over}
 use Rattle.seats.specs.Lists.{answers, end}
+use Rattle.seats.proofs.LoadRefusals.{load-cases}
 use Rattle.seats.proofs.StoredEntries.{length-stored}
-use Rattle.boundary.specs.Block.{state-in, words-of, holding, of-state, code-of}
+use Rattle.boundary.specs.Block.{sets-word, conflicts-word, seats-word, block-length, state-in, words-of, holding, of-state, code-of}
 use Rattle.boundary.specs.Keeper.{given, call-block, load-block, fresh-block}
 use Rattle.boundary.proofs.BlockWords.{table-whole, regroup}
 
@@ -45,13 +44,13 @@ state-held s W z =
     let A = s .graph .sets in
     let B = s .graph .conflicts in
     let C = s .seats in
-    let D = drop 193 W in
+    let D = drop block-length W in
     let l = A ++ (B ++ (C ++ D)) in
     let b : drop 64 l ≡ B ++ (C ++ D) = drop-at A (B ++ (C ++ D)) 64 (z .sets) in
     let c : drop 128 l ≡ C ++ D = sym (drop-drop 64 64 l) ∙ ap (λ (k : List ℕ). drop 64 k) b ∙ drop-at B (C ++ D) 64 (z .conflicts) in
     rw (regroup A B C D, b, c, take-at A (B ++ (C ++ D)) 64 (z .sets), take-at B (C ++ D) 64 (z .conflicts), take-at C D 64 (z .seats))
 
-holding-length : (s : State) (W : List ℕ) → Sized s → 193 ≤ length W → length (holding s W) ≡ length W
+holding-length : (s : State) (W : List ℕ) → Sized s → block-length ≤ length W → length (holding s W) ≡ length W
 unfolding holding words-of
 holding-length s W z l =
     let a = z .sets in
@@ -60,12 +59,12 @@ holding-length s W z l =
     simp (length-append, length-drop) (omega arith)
 
 -- The state of a block is sized.
-pub block-sized : (W : List ℕ) → 193 ≤ length W → Sized (state-in W)
+pub block-sized : (W : List ℕ) → block-length ≤ length W → Sized (state-in W)
 unfolding sets-in
 block-sized W l = record {
-  sets = table-whole W 1 (omega arith);
-  conflicts = table-whole W 65 (omega arith);
-  seats = table-whole W 129 (omega arith);
+  sets = table-whole W sets-word (omega arith);
+  conflicts = table-whole W conflicts-word (omega arith);
+  seats = table-whole W seats-word (omega arith);
 }
 
 -- ---- what keeps the tables' lengths
@@ -113,26 +112,9 @@ unfolding unless-refused
 unless-sized passed s z = sized z
 unless-sized (refusing.refused n p) s z = none
 
-either-sized : (b : Bool) (x y : Loaded) → SizedLoad x → SizedLoad y → SizedLoad (cond b x y)
-either-sized true x y p q = p
-either-sized false x y p q = q
-
 contents-sized : (c : Contents) → SizedLoad (load-contents c)
 unfolding load-contents
 contents-sized c = unless-sized (verdict (entry-checks c ++ content-checks (restored c))) (restored c) (restored-sized c)
-
-trailer-sized : (l : List ℕ) (far : ℕ) (n : Counts) → SizedLoad (load-trailer l far n)
-unfolding load-trailer
-trailer-sized l far n =
-    let c = contents l (length l - far) n in
-    either-sized (eqb far (distance n) && leb far (length l)) (load-contents c) (not-loaded 6 0) (contents-sized c) none
-
-load-sized : (l : List ℕ) → SizedLoad (load l)
-unfolding load
-load-sized l =
-    let far = far-at l (length l) in
-    let n = counts-at l (length l) in
-    either-sized (ltb (length l) least-image) (not-loaded 6 0) (load-trailer l far n) none (trailer-sized l far n)
 
 settled-sized : (s : State) {x : Loaded} → Sized s → SizedLoad x → Sized (settle-load s x .1)
 unfolding settle-load
@@ -140,38 +122,38 @@ settled-sized s z (sized p) = p
 settled-sized s z none = z
 
 -- The block after a load holds the state after it.
-pub load-holds : (W l : List ℕ) → 193 ≤ length W → state-in (load-block W l .1) ≡ load-over (state-in W) l .1
+pub load-holds : (W l : List ℕ) → block-length ≤ length W → state-in (load-block W l .1) ≡ load-over (state-in W) l .1
 unfolding load-block of-state given load-over
-load-holds W l n = rw (le-leb 193 (length W) n) (state-held (load-over (state-in W) l .1) W (settled-sized (state-in W) (block-sized W n) (load-sized l)))
+load-holds W l n = rw (le-leb block-length (length W) n) (state-held (load-over (state-in W) l .1) W (settled-sized (state-in W) (block-sized W n) (load-cases SizedLoad none contents-sized l)))
 
 -- A block made fresh holds the fresh state.
-pub fresh-holds : (W : List ℕ) → 193 ≤ length W → state-in (fresh-block W .1) ≡ fresh
+pub fresh-holds : (W : List ℕ) → block-length ≤ length W → state-in (fresh-block W .1) ≡ fresh
 unfolding fresh-block of-state given fresh graph.fresh
-fresh-holds W n = rw (le-leb 193 (length W) n) (state-held fresh W (record { sets = refl; conflicts = refl; seats = refl }))
+fresh-holds W n = rw (le-leb block-length (length W) n) (state-held fresh W (record { sets = refl; conflicts = refl; seats = refl }))
 
 -- ---- calls
 
 -- The block after a record holds the state after it.
-pub call-holds : (W l : List ℕ) → 193 ≤ length W → state-in (call-block W l .1) ≡ step (state-in W) l .1
+pub call-holds : (W l : List ℕ) → block-length ≤ length W → state-in (call-block W l .1) ≡ step (state-in W) l .1
 unfolding call-block of-state given
-call-holds W l n = rw (le-leb 193 (length W) n) (state-held (step (state-in W) l .1) W (step-sized (state-in W) l (block-sized W n)))
+call-holds W l n = rw (le-leb block-length (length W) n) (state-held (step (state-in W) l .1) W (step-sized (state-in W) l (block-sized W n)))
 
-call-length : (W l : List ℕ) → 193 ≤ length W → length (call-block W l .1) ≡ length W
+call-length : (W l : List ℕ) → block-length ≤ length W → length (call-block W l .1) ≡ length W
 unfolding call-block of-state given
-call-length W l n = rw (le-leb 193 (length W) n) (holding-length (step (state-in W) l .1) W (step-sized (state-in W) l (block-sized W n)) n)
+call-length W l n = rw (le-leb block-length (length W) n) (holding-length (step (state-in W) l .1) W (step-sized (state-in W) l (block-sized W n)) n)
 
-call-code : (W l : List ℕ) → 193 ≤ length W → call-block W l .0 ≡ code-of (step (state-in W) l .0)
+call-code : (W l : List ℕ) → block-length ≤ length W → call-block W l .0 ≡ code-of (step (state-in W) l .0)
 unfolding call-block of-state given
-call-code W l n = rw (le-leb 193 (length W) n)
+call-code W l n = rw (le-leb block-length (length W) n)
 
 -- A list of records on one block gives the codes of the definitions' answers, and the block then holds the state at the list's end.
-pub list-on-block : (W : List ℕ) (l : List (List ℕ)) → 193 ≤ length W
+pub list-on-block : (W : List ℕ) (l : List (List ℕ)) → block-length ≤ length W
     → (run call-block W l .0 ≡ map code-of (answers (state-in W) l)) × (state-in (run call-block W l .1) ≡ end (state-in W) l)
 unfolding run answers end
 list-on-block W [] n = (refl, refl)
 list-on-block W (r ∷ l) n =
     let e = call-holds W r n in
-    let m : 193 ≤ length (call-block W r .1) = omega (arith, call-length W r n) in
+    let m : block-length ≤ length (call-block W r .1) = omega (arith, call-length W r n) in
     let (p, q) = list-on-block (call-block W r .1) l m in (
       ap₂ (λ (a : ℕ) (k : List ℕ). a ∷ k) (call-code W r n) (p ∙ ap (λ (s : State). map code-of (answers s l)) e),
       q ∙ ap (λ (s : State). end s l) e,

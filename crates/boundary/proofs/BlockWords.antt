@@ -16,26 +16,26 @@ use Rattle.seats.specs.Seats.{State}
 use Rattle.seats.specs.Calls.{with-graph, with-conflicts, with-seats}
 use Rattle.seats.specs.Written.{Written}
 use Rattle.seats.proofs.Written.{and-then, one-written, written-front}
-use Rattle.boundary.specs.Block.{table-at, state-in, words-of, holding}
+use Rattle.boundary.specs.Block.{sets-word, conflicts-word, seats-word, block-length, table-at, state-in, words-of, holding}
 use Rattle.boundary.specs.Working.{stored-at}
 
 -- ---- tables written
 
 -- The roles and the sets written.
-roles-put : (r : ℕ) (W : List ℕ) {A X : List ℕ} → 65 ≤ length W → Written (set W 0 r) 1 A X 65 → X ≡ (r ∷ A) ++ drop 65 W
+roles-put : (r : ℕ) (W : List ℕ) {A X : List ℕ} → conflicts-word ≤ length W → Written (set W 0 r) sets-word A X conflicts-word → X ≡ (r ∷ A) ++ drop conflicts-word W
 roles-put r W {A} l w =
     let p = and-then (one-written W 0 r) w in
     let n = p .place in
-    let e : suc (length A) ≡ 65 = omega arith in
+    let e : suc (length A) ≡ conflicts-word = omega arith in
     written-front p (omega arith) ∙ ap (λ (k : ℕ). (r ∷ A) ++ drop k W) e
 
 -- A state written.
-pub state-put : (s : State) (W : List ℕ) {X Y Z : List ℕ} → 193 ≤ length W → Written (set W 0 (s .graph .roles)) 1 (s .graph .sets) X 65 → Written X 65 (s .graph .conflicts) Y 129 → Written Y 129 (s .seats) Z 193 → Z ≡ holding s W
+pub state-put : (s : State) (W : List ℕ) {X Y Z : List ℕ} → block-length ≤ length W → Written (set W 0 (s .graph .roles)) sets-word (s .graph .sets) X conflicts-word → Written X conflicts-word (s .graph .conflicts) Y seats-word → Written Y seats-word (s .seats) Z block-length → Z ≡ holding s W
 unfolding holding words-of
 state-put s W l w x y =
     let p = and-then (one-written W 0 (s .graph .roles)) (and-then w (and-then x y)) in
     let n = p .place in
-    let e : length (words-of s) ≡ 193 = omega arith in
+    let e : length (words-of s) ≡ block-length = omega arith in
     written-front p (omega arith) ∙ ap (λ (k : ℕ). words-of s ++ drop k W) e
 
 -- ---- the words as tables
@@ -52,23 +52,23 @@ next-table : (W : List ℕ) (i : ℕ) → drop i W ≡ table-at W i ++ drop (i +
 next-table W i = sym (take-append-drop 64 (drop i W)) ∙ ap (λ (k : List ℕ). table-at W i ++ k) (drop-drop 64 i W)
 
 -- The last two tables and the words behind them.
-last-tables : (W : List ℕ) → drop 65 W ≡ table-at W 65 ++ (table-at W 129 ++ drop 193 W)
-last-tables W = next-table W 65 ∙ ap (λ (k : List ℕ). table-at W 65 ++ k) (next-table W 129)
+last-tables : (W : List ℕ) → drop conflicts-word W ≡ table-at W conflicts-word ++ (table-at W seats-word ++ drop block-length W)
+last-tables W = next-table W conflicts-word ∙ ap (λ (k : List ℕ). table-at W conflicts-word ++ k) (next-table W seats-word)
 
 -- Roles and sets written before tables that stay.
-pub graph-put : (s : State) (W : List ℕ) {X : List ℕ} → 193 ≤ length W → s .graph .conflicts ≡ table-at W 65 → s .seats ≡ table-at W 129 → Written (set W 0 (s .graph .roles)) 1 (s .graph .sets) X 65 → X ≡ holding s W
+pub graph-put : (s : State) (W : List ℕ) {X : List ℕ} → block-length ≤ length W → s .graph .conflicts ≡ table-at W conflicts-word → s .seats ≡ table-at W seats-word → Written (set W 0 (s .graph .roles)) sets-word (s .graph .sets) X conflicts-word → X ≡ holding s W
 unfolding holding words-of
 graph-put s W l p q w =
     roles-put (s .graph .roles) W (omega arith) w
-    ∙ rw (last-tables W, p, q) (ap (λ (k : List ℕ). s .graph .roles ∷ k) (sym (regroup (s .graph .sets) (table-at W 65) (table-at W 129) (drop 193 W))))
+    ∙ rw (last-tables W, p, q) (ap (λ (k : List ℕ). s .graph .roles ∷ k) (sym (regroup (s .graph .sets) (table-at W conflicts-word) (table-at W seats-word) (drop block-length W))))
 
 -- The front of a block up to its conflicts, and the rest.
 front : List ℕ → List ℕ
-front W = getD W 0 0 ∷ table-at W 1
+front W = getD W 0 0 ∷ table-at W sets-word
 
-laid : (W : List ℕ) → 0 < length W → W ≡ front W ++ (table-at W 65 ++ (table-at W 129 ++ drop 193 W))
+laid : (W : List ℕ) → 0 < length W → W ≡ front W ++ (table-at W conflicts-word ++ (table-at W seats-word ++ drop block-length W))
 unfolding front
-laid W l = drop-cons W 0 0 l ∙ ap (λ (k : List ℕ). getD W 0 0 ∷ k) (next-table W 1 ∙ ap (λ (k : List ℕ). table-at W 1 ++ k) (last-tables W))
+laid W l = drop-cons W 0 0 l ∙ ap (λ (k : List ℕ). getD W 0 0 ∷ k) (next-table W 1 ∙ ap (λ (k : List ℕ). table-at W sets-word ++ k) (last-tables W))
 
 -- A block holds its own state.
 pub holds-own : (W : List ℕ) → 0 < length W → holding (state-in W) W ≡ W
@@ -91,24 +91,24 @@ stored-in P T Q i n x l k = elim (decide (ltb n 64)) [
 ]
 
 -- The conflicts of a privilege stored.
-pub conflicts-stored : (W : List ℕ) (n x : ℕ) → 193 ≤ length W → stored-at W 65 n x ≡ holding (with-conflicts (state-in W) (set (state-in W .graph .conflicts) n x)) W
+pub conflicts-stored : (W : List ℕ) (n x : ℕ) → block-length ≤ length W → stored-at W conflicts-word n x ≡ holding (with-conflicts (state-in W) (set (state-in W .graph .conflicts) n x)) W
 unfolding holding words-of front with-graph with-conflicts sets-in
 conflicts-stored W n x l =
-    let C = table-at W 65 in
-    let S = table-at W 129 in
-    let D = drop 193 W in
-    ap (λ (k : List ℕ). stored-at k 65 n x) (laid W (omega arith))
-    ∙ stored-in (front W) C (S ++ D) 65 n x (ap suc (table-whole W 1 (omega arith))) (table-whole W 65 (omega arith))
+    let C = table-at W conflicts-word in
+    let S = table-at W seats-word in
+    let D = drop block-length W in
+    ap (λ (k : List ℕ). stored-at k conflicts-word n x) (laid W (omega arith))
+    ∙ stored-in (front W) C (S ++ D) conflicts-word n x (ap suc (table-whole W sets-word (omega arith))) (table-whole W conflicts-word (omega arith))
     ∙ simp append-assoc
 
 -- The roles of a seat stored.
-pub roles-stored : (W : List ℕ) (n x : ℕ) → 193 ≤ length W → stored-at W 129 n x ≡ holding (with-seats (state-in W) (set (state-in W .seats) n x)) W
+pub roles-stored : (W : List ℕ) (n x : ℕ) → block-length ≤ length W → stored-at W seats-word n x ≡ holding (with-seats (state-in W) (set (state-in W .seats) n x)) W
 unfolding holding words-of front with-seats sets-in
 roles-stored W n x l =
-    let C = table-at W 65 in
-    let S = table-at W 129 in
-    let D = drop 193 W in
-    let b : length (front W ++ C) ≡ 129 = length-append (front W) C ∙ rw (ap suc (table-whole W 1 (omega arith)), table-whole W 65 (omega arith)) in
-    ap (λ (k : List ℕ). stored-at k 129 n x) (laid W (omega arith) ∙ sym (append-assoc (front W) C (S ++ D)))
-    ∙ stored-in (front W ++ C) S D 129 n x b (table-whole W 129 (omega arith))
+    let C = table-at W conflicts-word in
+    let S = table-at W seats-word in
+    let D = drop block-length W in
+    let b : length (front W ++ C) ≡ seats-word = length-append (front W) C ∙ rw (ap suc (table-whole W sets-word (omega arith)), table-whole W conflicts-word (omega arith)) in
+    ap (λ (k : List ℕ). stored-at k seats-word n x) (laid W (omega arith) ∙ sym (append-assoc (front W) C (S ++ D)))
+    ∙ stored-in (front W ++ C) S D seats-word n x b (table-whole W seats-word (omega arith))
     ∙ simp append-assoc

@@ -3,7 +3,7 @@
 use mathlib.Core.Bool.{Bool, true, false, cond, _&&_}
 use mathlib.Core.List.{List, [], _++_}
 use mathlib.Core.Path.{_≡_, refl, sym, ap, ap₂, _∙_, subst}
-use Prim.Native.Nat.{ℕ, min, _+_, _-_, _*_, _^_, _≤_, _<_}
+use Prim.Native.Nat.{ℕ, _+_, _-_, _*_, _^_, _≤_, _<_}
 use native.Mathlib.Omega.{arith}
 use lib.ListN.{length, take, drop, length-drop, drop-of-length-le}
 use lib.Dec.{T, leb, ltb, leb→le, ltb→lt}
@@ -12,12 +12,14 @@ use Rattle.sets.proofs.Tests.{both}
 use Rattle.seats.specs.Bytes.{Filled, written, too-short, fill}
 use Rattle.seats.specs.Seats.{State}
 use Rattle.seats.specs.Calls.{Answer}
-use Rattle.seats.specs.Records.{record-length, step}
+use Rattle.seats.specs.Records.{step}
+use Rattle.seats.specs.Places.{record-at, record-end}
 use Rattle.seats.specs.Tape.{records, line, fed, longest-line, feed}
 use Rattle.seats.specs.Working.{record-count}
 use Rattle.seats.specs.Written.{Written}
 use Rattle.seats.proofs.Written.{written-length, Unwritten, unwritten-all, unwritten-length, unwritten-next, unwritten-none, filled, fill-written}
-use Rattle.seats.proofs.TapeRecords.{count-records, records-first, records-next, fed-none, fed-next}
+use Rattle.seats.proofs.TapeRecords.{count-records, records-first, fed-none}
+use Rattle.seats.proofs.TapePlaces.{records-more, fed-more}
 
 -- Of a part fed from the state s₀ into the buffer l₀ after count records, what starts at `start` is left, for the buffer l from `place` on, after index records and from the state s.
 pub record Left (l₀ : List ℕ) (count : ℕ) (part : List ℕ) (s₀ : State) (l : List ℕ) (index place start : ℕ) (s : State) : Type 0 where
@@ -48,14 +50,14 @@ module _ (l₀ : List ℕ) (count : ℕ) (part : List ℕ) (s₀ : State) where
 
   -- One record is fed: its answer and state are the step's, and its line is put at the place.
   pub left-next : {l m : List ℕ} {index place start next j : ℕ} {s t : State} {a : Answer}
-      → Left l₀ count part s₀ l index place start s → start < length part → next ≡ min (start + record-length) (length part)
-      → (a, t) ≡ step s (take (next - start) (drop start part)) → Written l place (line (index + 1) a) m j → j ≤ place + longest-line
+      → Left l₀ count part s₀ l index place start s → start < length part → next ≡ record-end part start
+      → (a, t) ≡ step s (record-at part start) → Written l place (line (index + 1) a) m j → j ≤ place + longest-line
       → Left l₀ count part s₀ m (index + 1) j next t
   left-next {l} {m} {index} {place} {start} {next} {j} {s} {t} {a} w h e u p b =
       let behind = fed t (index + 1) (drop next part) in
-      let n : length (records (drop start part)) ≡ length (records (drop next part)) + 1 = ap length (records-next part start next h e) ∙ omega arith in
+      let n : length (records (drop start part)) ≡ length (records (drop next part)) + 1 = rw e (ap length (records-more part start h) ∙ omega arith) in
       let f : fed s index (drop start part) ≡ (line (index + 1) a ++ behind .0, behind .1) =
-      fed-next s index part start next h e
+      rw e (fed-more part start h s index)
       ∙ ap (λ (z : Answer × State). (line (index + 1) (z .0) ++ fed (z .1) (index + 1) (drop next part) .0, fed (z .1) (index + 1) (drop next part) .1)) (sym u) in
       let f₀ = ap (λ (z : List ℕ × (ℕ × State)). z .0) f in
       record {

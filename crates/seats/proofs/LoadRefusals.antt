@@ -11,7 +11,7 @@ use Rattle.graph.specs.Refusing.{Check, Verdict, passed, verdict}
 use Rattle.graph.specs.Refusing as refusing
 use Rattle.seats.specs.Seats.{State}
 use Rattle.seats.specs.Calls.{refused}
-use Rattle.seats.specs.Images.{least-image, Counts, distance, Contents, far-at, counts-at, contents, restored, entry-checks, content-checks, Loaded, loaded, not-loaded, unless-refused, load-contents, load-trailer, load, settle-load, load-over}
+use Rattle.seats.specs.Images.{least-image, distance, Contents, far-at, counts-at, contents, restored, entry-checks, content-checks, Loaded, loaded, not-loaded, unless-refused, load-contents, load-trailer, load, settle-load, load-over}
 
 pub load-refused-keeps : (s : State) (l : List ℕ) (n p : ℕ) → load l ≡ not-loaded n p → load-over s l ≡ (refused n p, s)
 unfolding load-over settle-load
@@ -61,21 +61,15 @@ contents-refused c = by-verdict (verdict (entry-checks c ++ content-checks (rest
     by-verdict passed h = tt
     by-verdict (refusing.refused n p) h = h
 
-six : OfLoading 6 0
-six = (inl refl, refl)
-
-trailer-refused : (l : List ℕ) (far : ℕ) (n : Counts) → Refused (load-trailer l far n)
-unfolding load-trailer
-trailer-refused l far n =
-    let x = contents l (length l - far) n in
-    either-way Refused (eqb far (distance n) && leb far (length l)) (load-contents x) (not-loaded 6 0) (contents-refused x) six
-
-load-refused : (l : List ℕ) → Refused (load l)
-unfolding load
-load-refused l =
+-- What refusal 6 and every load of contents have, every load has.
+pub load-cases : (P : Loaded → Type 0) → P (not-loaded 6 0) → ((c : Contents) → P (load-contents c)) → (l : List ℕ) → P (load l)
+unfolding load load-trailer
+load-cases P six some l =
     let far = far-at l (length l) in
     let n = counts-at l (length l) in
-    either-way Refused (ltb (length l) least-image) (not-loaded 6 0) (load-trailer l far n) six (trailer-refused l far n)
+    let c = contents l (length l - far) n in
+    either-way P (ltb (length l) least-image) (not-loaded 6 0) (load-trailer l far n) six
+    (either-way P (eqb far (distance n) && leb far (length l)) (load-contents c) (not-loaded 6 0) (some c) six)
 
 pub load-refusals : (l : List ℕ) (n p : ℕ) → load l ≡ not-loaded n p → ((n ≡ 6) ⊎ (n ≡ 7) ⊎ (n ≡ 8)) × (p ≡ 0)
-load-refusals l n p e = subst Refused e (load-refused l)
+load-refusals l n p e = subst Refused e (load-cases Refused (inl refl, refl) contents-refused l)

@@ -2,14 +2,19 @@
 -- Assumes nothing.
 use mathlib.Core.Path.{_≡_, refl, sym, ap, _∙_}
 use mathlib.Core.Bool.{Bool, true, false, not, cond}
-use mathlib.Core.List.{List, [], _∷_}
+use mathlib.Core.List.{List, [], _∷_, _++_}
 use Prim.Native.Nat.{ℕ, zero, suc, _+_, _-_, _≤_, _<_, min}
+use native.Mathlib.Numerals.{add-one}
 use native.Mathlib.Omega.{arith}
 use lib.Dec.{leb}
 use lib.ListN.{length, take, drop, length-drop, drop-of-length-le}
 use lib.Seq.{take-all, take-nil, drop-drop}
 use borrow.Author.Tests.{leb-true, leb-false, not-true, not-false}
-use Rattle.seats.specs.Tape.{records}
+use Rattle.lists.specs.Runs.{run}
+use Rattle.seats.specs.Seats.{State}
+use Rattle.seats.specs.Records.{record-length, step}
+use Rattle.seats.specs.Lists.{answers, end}
+use Rattle.seats.specs.Tape.{records, line, lines, fed}
 use Rattle.seats.proofs.TapeRecords.{records-first, records-none}
 use Rattle.seats.specs.Places.{is-end, record-at, record-end, records-from}
 
@@ -49,25 +54,39 @@ drop-min n l = go (leb n (length l)) refl
 -- The part of a tape from a place to where the record there ends is that record.
 pub part-is : (tape : List ℕ) (at e : ℕ) → e ≡ record-end tape at → at ≤ e → take (e - at) (drop at tape) ≡ record-at tape at
 part-is tape at e p h =
-    let w : e - at ≡ min 32 (length (drop at tape)) = rw length-drop (omega arith) in
-    ap (λ (n : ℕ). take n (drop at tape)) w ∙ take-min 32 (drop at tape)
+    let w : e - at ≡ min record-length (length (drop at tape)) = rw length-drop (omega arith) in
+    ap (λ (n : ℕ). take n (drop at tape)) w ∙ take-min record-length (drop at tape)
 
 -- Beyond the end the record is empty.
 pub part-none : (tape : List ℕ) (at e : ℕ) → e ≡ record-end tape at → e < at → take (e - e) (drop e tape) ≡ record-at tape at
 part-none tape at e p h =
     let z : e - e ≡ 0 = omega arith in
     let out : length tape ≤ at = omega arith in
-    ap (λ (n : ℕ). take n (drop e tape)) z ∙ sym (ap (take 32) (drop-of-length-le tape {i = at} out) ∙ take-nil 32)
+    ap (λ (n : ℕ). take n (drop e tape)) z ∙ sym (ap (take record-length) (drop-of-length-le tape {i = at} out) ∙ take-nil record-length)
 
 -- No record is left at the end.
 pub records-ended : (tape : List ℕ) (at : ℕ) → length tape ≤ at → records (drop at tape) ≡ []
 records-ended tape at h = records-none (drop at tape) (rw length-drop (omega arith))
 
 -- Before the end the record there is left, and those from where it ends.
-pub records-more : (tape : List ℕ) (at : ℕ) → at < length tape → records (drop at tape) ≡ record-at tape at ∷ records (drop (record-end tape at) tape)
-records-more tape at h =
-    records-first (drop at tape) (rw length-drop (omega arith))
-    ∙ ap (λ (l : List ℕ). record-at tape at ∷ records l) (drop-drop 32 at tape ∙ sym (drop-min (at + 32) tape))
+module _ (tape : List ℕ) (at : ℕ) (h : at < length tape) where
+  pub records-more : records (drop at tape) ≡ record-at tape at ∷ records (drop (record-end tape at) tape)
+  records-more =
+      records-first (drop at tape) (rw length-drop (omega arith))
+      ∙ ap (λ (l : List ℕ). record-at tape at ∷ records l) (drop-drop record-length at tape ∙ sym (drop-min (at + record-length) tape))
+
+  -- What is left comes to the line of the record there, and what comes after it.
+  pub fed-more : (s : State) (index : ℕ)
+      → let (a, t) = step s (record-at tape at) in
+      fed s index (drop at tape) ≡ (line (index + 1) a ++ fed t (index + 1) (drop (record-end tape at) tape) .0, fed t (index + 1) (drop (record-end tape at) tape) .1)
+  unfolding fed answers end run lines
+  fed-more s index =
+      let (a, t) = step s (record-at tape at) in
+      let l = records (drop (record-end tape at) tape) in
+      let n : index + suc (length l) ≡ suc index + length l = omega arith in
+      ap (λ (l : List (List ℕ)). (lines (suc index) (answers s l), (index + length l, end s l))) records-more
+      ∙ ap (λ (n : ℕ). (line (suc index) a ++ lines (suc (suc index)) (answers t l), (n, end t l))) n
+      ∙ ap (λ (i : ℕ). (line i a ++ lines (suc i) (answers t l), (i + length l, end t l))) (sym (add-one index))
 
 -- Reading on from a place gives the records that are left.
 pub reads-left : (n : ℕ) (tape : List ℕ) (at : ℕ) → length tape - at ≤ n → records-from n tape at ≡ records (drop at tape)

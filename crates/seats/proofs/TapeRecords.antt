@@ -2,12 +2,11 @@
 -- Assumes nothing.
 use mathlib.Core.List.{List, [], _∷_, _++_, append-assoc, append-nil}
 use mathlib.Core.Path.{_≡_, refl, sym, ap, ap₂, _∙_}
-use Prim.Native.Nat.{ℕ, zero, suc, min, _+_, _-_, _%_, _≤_, _<_}
+use Prim.Native.Nat.{ℕ, zero, suc, _+_, _-_, _%_, _≤_, _<_}
 use native.Mathlib.Nat.{not-suc-le-zero, add-zero, zero-add}
-use native.Mathlib.Numerals.{add-one}
 use native.Mathlib.Omega.{arith}
 use lib.ListN.{length, take, drop, length-append, length-drop}
-use lib.Seq.{take-nil, drop-nil, take-append-le, drop-append-le, drop-drop}
+use lib.Seq.{take-append-le, drop-append-le}
 use Rattle.lists.specs.Runs.{run}
 use Rattle.lists.proofs.Runs.{run-append, answers-length}
 use Rattle.graph.specs.Drawing.{edge-count}
@@ -65,32 +64,6 @@ count-records l =
     (λ t h ih. let e = length-drop record-length t in ap length (records-first t h) ∙ ap suc ih ∙ omega arith)
     (length l) l (omega arith)
 
--- A list has no more elements than its length.
-take-cut : (k n : ℕ) (l : List ℕ) → k ≡ min n (length l) → take k l ≡ take n l
-take-cut k n [] e = take-nil k ∙ sym (take-nil n)
-take-cut zero zero (x ∷ l) e = refl
-take-cut zero (suc n) (x ∷ l) e = absurd (omega arith)
-take-cut (suc k) zero (x ∷ l) e = absurd (omega arith)
-take-cut (suc k) (suc n) (x ∷ l) e = ap (λ (r : List ℕ). x ∷ r) (take-cut k n l (omega arith))
-
-drop-cut : (k n : ℕ) (l : List ℕ) → k ≡ min n (length l) → drop k l ≡ drop n l
-drop-cut k n [] e = drop-nil k ∙ sym (drop-nil n)
-drop-cut zero zero (x ∷ l) e = refl
-drop-cut zero (suc n) (x ∷ l) e = absurd (omega arith)
-drop-cut (suc k) zero (x ∷ l) e = absurd (omega arith)
-drop-cut (suc k) (suc n) (x ∷ l) e = drop-cut k n l (omega arith)
-
--- The record at a place of a tape, cut off where the tape ends, and those behind it.
-pub records-next : (l : List ℕ) (start next : ℕ) → start < length l → next ≡ min (start + record-length) (length l)
-    → records (drop start l) ≡ take (next - start) (drop start l) ∷ records (drop next l)
-records-next l start next h e =
-    let d = length-drop start l in
-    let k : next - start ≡ min record-length (length (drop start l)) = omega arith in
-    let n : start + (next - start) ≡ next = omega arith in
-    let a = take-cut (next - start) record-length (drop start l) k in
-    let b = ap (λ (i : ℕ). drop i l) (sym n) ∙ sym (drop-drop (next - start) start l) ∙ drop-cut (next - start) record-length (drop start l) k in
-    records-first (drop start l) (omega arith) ∙ ap₂ (λ (r t : List ℕ). r ∷ records t) (sym a) (sym b)
-
 -- A tape whose front ends where a record ends.
 pub records-append : (p q : List ℕ) → length p % record-length ≡ 0 → records (p ++ q) ≡ records p ++ records q
 records-append p q =
@@ -140,20 +113,6 @@ lines-append i (x ∷ a) b =
 pub fed-none : (s : State) (count : ℕ) → fed s count [] ≡ ([], (count, s))
 unfolding fed records records-upto answers end run lines
 fed-none s count = ap (λ (n : ℕ). ([], (n, s))) (add-zero count)
-
--- The record at a place of a tape, cut off where the tape ends, and the rest after it.
-pub fed-next : (s : State) (index : ℕ) (tape : List ℕ) (start next : ℕ) → start < length tape → next ≡ min (start + record-length) (length tape)
-    → let (a, t) = step s (take (next - start) (drop start tape)) in
-    fed s index (drop start tape) ≡ (line (index + 1) a ++ fed t (index + 1) (drop next tape) .0, fed t (index + 1) (drop next tape) .1)
-unfolding fed answers end run lines
-fed-next s index tape start next h e =
-    let r = take (next - start) (drop start tape) in
-    let t = step s r .1 in
-    let l = records (drop next tape) in
-    let n : index + suc (length l) ≡ suc index + length l = omega arith in
-    ap (λ (l : List (List ℕ)). (lines (suc index) (answers s l), (index + length l, end s l))) (records-next tape start next h e)
-    ∙ ap (λ (n : ℕ). (line (suc index) (step s r .0) ++ lines (suc (suc index)) (answers t l), (n, end t l))) n
-    ∙ ap (λ (i : ℕ). (line i (step s r .0) ++ lines (suc i) (answers t l), (i + length l, end t l))) (sym (add-one index))
 
 -- A tape whose front ends where a record ends: the front, and the rest after it.
 pub fed-append : (s : State) (count : ℕ) (p q : List ℕ) → length p % record-length ≡ 0

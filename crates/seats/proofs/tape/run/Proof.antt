@@ -2,14 +2,12 @@
 -- The measure is the bytes left.
 -- Assumes nothing.
 use borrow.Author.Needs.{needs}
-use mathlib.Core.Path.{sym, ap, _∙_}
 use Prim.Native.Nat.{_-_, _<_}
 use native.Mathlib.Omega.{arith}
 use lib.ListN.{length}
-use Rattle.seats.specs.Records.{step}
 use Rattle.seats.specs.Reading.{read-state, read-filled}
 use Rattle.seats.proofs.Feeding.{Left, left-start, left-length, left-room, left-next, left-end}
-use Rattle.seats.proofs.TapePlaces.{before-end, at-end, part-is}
+use Rattle.seats.proofs.TapePlaces.{before-end, at-end}
 use Rattle.seats.proofs.tape.run.Statement.{statement}
 use Rattle.seats.proofs.tape.run.Tie as tie
 
@@ -49,10 +47,9 @@ loop-again c =
     let n = c .before .before .before .before .before in
     let t = n .before in
     let l = t .before .before in
-    let part = l .before .before .before .args .part .now in
     let e = n .turn .ensures in
     let h = before t in
-    left-next _ _ _ _ (l .loop .inv) h (e .1) (e .0 ∙ ap (step (read-state (l .loop .state))) (sym (part-is part (l .loop .at) (n .turn .result .at) (e .1) (omega (arith, h, e .1)))))
+    left-next _ _ _ _ (l .loop .inv) h (e .1) (e .0)
     (c .before .before .put-line .ensures .0) (c .before .before .put-line .ensures .1)
 
 same-length : tie.Need-same-length Inv-loop μ-loop
