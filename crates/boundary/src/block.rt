@@ -1,10 +1,10 @@
-// The words of a block: tables and states copied out of it, and written back.
+// The words of a block: where its tables start, and tables, states and entries written into it.
 ghost use mathlib.Core.Path.{_≡_};
 ghost use Prim.Native.Nat.{_+_, _≤_};
 ghost use lib.ListN.{length};
 ghost use Rattle.seats.specs.Written.{Written};
 ghost use Rattle.seats.specs.Reading.{read-state};
-ghost use Rattle.boundary.specs.Block.{table-length, block-length, table-at, state-in, holding};
+ghost use Rattle.boundary.specs.Block.{table-length, block-length, holding};
 ghost use Rattle.boundary.specs.Working.{stored-at};
 use seats::State;
 
@@ -17,34 +17,6 @@ pub(crate) const SEATS: usize = CONFLICTS + 64;
 
 // How many words a state takes.
 pub(crate) const WORDS: usize = SEATS + 64;
-
-// The table that starts at a word.
-pub(crate) fn table_at(block: &[u64], at: usize) -> [u64; 64]
-    requires { ⌜ at + 64 ≤ length (now block) ⌝ }
-    ensures { λ r. ⌜ r ≡ table-at (now (block .entry)) at ⌝ }
-{
-    let mut table = [0u64; 64];
-    for i in 0..64usize {
-        table[i] = block[at + i];
-    }
-    table
-}
-
-// The state that the first words hold.
-pub(crate) fn state_in(block: &[u64]) -> State
-    requires { ⌜ block-length ≤ length (now block) ⌝ }
-    ensures { λ r. ⌜ read-state r ≡ state-in (now (block .entry)) ⌝ }
-{
-    let sets = table_at(block, SETS);
-    let conflicts = table_at(block, CONFLICTS);
-    let seats = table_at(block, SEATS);
-    State {
-        roles: block[0],
-        sets,
-        conflicts,
-        seats,
-    }
-}
 
 // Writes a table, from a word on.
 pub(crate) fn put_table(block: &mut [u64], at: usize, table: &[u64; 64])

@@ -6,13 +6,14 @@ use crate::block::SEATS;
 use crate::block::SETS;
 use crate::block::WORDS;
 use crate::block::put_state;
-use crate::block::state_in;
 use crate::codes::NO_STATE;
 use crate::codes::code;
 use crate::codes::refusal_code;
+use seats::Answer;
 use seats::Filled;
 use seats::loading;
 use seats::saving;
+use seats::tape;
 
 // Saves the block's state into the buffer: the length written, or 65536 and the refusal's code.
 #[no_mangle]
@@ -40,9 +41,14 @@ pub extern "C" fn keeper_load(block: &mut [u64], bytes: &[u8]) -> u32
     if block.len() < WORDS {
         return NO_STATE;
     }
-    let loaded = loading::load(state_in(block), bytes);
+    let loaded = loading::load(tape::fresh(), bytes);
     let answer = loaded.answer;
-    let next = loaded.state;
-    put_state(block, next);
-    code(answer)
+    match answer {
+        Answer::Accepted => {
+            let next = loaded.state;
+            put_state(block, next);
+            code(answer)
+        }
+        _ => code(answer),
+    }
 }

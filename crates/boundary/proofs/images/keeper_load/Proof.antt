@@ -1,13 +1,14 @@
--- `boundary::images::keeper_load` meets its contract: it writes the state that loading leaves.
+-- `boundary::images::keeper_load` meets its contract: what loading accepts is written, and any other answer leaves the block.
 -- Assumes nothing.
-use mathlib.Core.Path.{ap, _∙_}
+use mathlib.Core.Path.{sym}
+use native.Mathlib.Omega.{arith}
 use borrow.Author.Needs.{needs}
 use borrow.Author.Tests.{lt-leb, le-leb}
-use Rattle.seats.specs.Seats.{State}
-use Rattle.seats.specs.Images.{load-over}
 use Rattle.seats.specs.Reading.{read-state, read-answer}
-use Rattle.boundary.specs.Block.{of-state}
+use Rattle.seats.proofs.LoadRefusals.{load-accepted-any, load-other-any}
+use Rattle.boundary.specs.Block.{state-in, of-state}
 use Rattle.boundary.specs.Keeper.{load-block}
+use Rattle.boundary.proofs.BlockWords.{holds-own}
 use Rattle.boundary.proofs.CodedAnswer.{gives}
 use Rattle.boundary.proofs.images.keeper_load.Statement.{statement}
 use Rattle.boundary.proofs.images.keeper_load.Tie as tie
@@ -16,11 +17,14 @@ returns : tie.Need-returns
 unfolding load-block of-state
 returns c = simp (lt-leb _ _ (c .if1 .taken))
 
-state-in-requires : tie.Need-state-in-requires
-state-in-requires c κs = search needs
+fresh-requires : tie.Need-fresh-requires
+fresh-requires c κs = search needs
 
 load-requires : tie.Need-load-requires
 load-requires c κs = search needs
+
+enum-told : tie.Need-enum-told
+enum-told c = search needs
 
 put-state-requires : tie.Need-put-state-requires
 put-state-requires c κs = search needs
@@ -28,26 +32,46 @@ put-state-requires c κs = search needs
 code-requires : tie.Need-code-requires
 code-requires c κs = search needs
 
+code-requires-2 : tie.Need-code-requires-2
+code-requires-2 c κs = search needs
+
 same-length : tie.Need-same-length
 same-length c = search needs
 
 returns-2 : tie.Need-returns-2
 unfolding load-block of-state
 returns-2 c =
-    let s = c .before .before .before .before .before .before .before .before .before .before .before .before in
-    let l = c .before .before .before .before .before .before .load in
-    let e = l .ensures ∙ ap (λ (k : State). load-over k (s .args .bytes .now)) (c .before .before .before .before .before .before .before .state-in .ensures) in
-    rw (le-leb _ _ (c .before .before .before .before .before .before .before .before .before .if1 .left))
-    (gives (s .args .block .now) (read-answer (l .result .answer)) (read-state (l .result .state)) (c .code .ensures) (c .before .before .before .put-state .ensures) e)
+    let d = c .before .before .before .before .before .before .before .before in
+    let p = d .before .before .before .before .before in
+    let W = p .args .block .now in
+    let r = d .load .result in
+    rw (le-leb _ _ (d .before .before .if1 .left))
+    (gives W (read-answer (r .answer)) (read-state (r .state)) (c .code .ensures) (c .before .before .before .put-state .ensures)
+    (load-accepted-any (read-state (d .before .fresh .result)) (state-in W) (p .args .bytes .now) (d .load .ensures) (c .before .before .before .before .before .before .enum-told .given .1)))
+
+returns-3 : tie.Need-returns-3
+unfolding load-block of-state
+returns-3 c =
+    let d = c .before .before in
+    let p = d .before .before .before .before .before in
+    let W = p .args .block .now in
+    let r = d .load .result in
+    let whole = d .before .before .if1 .left in
+    rw (le-leb _ _ whole)
+    (gives W (read-answer (r .answer)) (state-in W) (c .code2 .ensures) (sym (holds-own W (omega (arith, whole))))
+    (load-other-any (read-state (d .before .fresh .result)) (state-in W) (p .args .bytes .now) (r .answer) (d .load .ensures) (c .before .match .keys2)))
 
 pub keeper-load-spec : {M : Type 1} → statement M
 keeper-load-spec =
     tie.close
     (tie.spec
     returns
-    state-in-requires
+    fresh-requires
     load-requires
+    enum-told
     put-state-requires
     code-requires
+    code-requires-2
     same-length
-    returns-2)
+    returns-2
+    returns-3)
