@@ -8,23 +8,14 @@ use Rattle.benchtape.proofs.Going.{fed-told, answered}
 use Rattle.benchtape.proofs.answer.Statement.{statement}
 use Rattle.benchtape.proofs.answer.Tie as tie
 
-room-requires : tie.Need-room-requires
-room-requires c κs = search needs
-
 slice-aggregate-feed : tie.Need-slice-aggregate-feed
 slice-aggregate-feed c = search needs
-
-feed-requires : tie.Need-feed-requires
-feed-requires c κs = search needs
 
 enum-told : tie.Need-enum-told
 enum-told c = search needs
 
 slice-aggregate-stop : tie.Need-slice-aggregate-stop
 slice-aggregate-stop c = search needs
-
-stop-requires : tie.Need-stop-requires
-stop-requires c κs = search needs
 
 enum-known-filled : tie.Need-enum-known-filled
 enum-known-filled c = search needs
@@ -51,9 +42,6 @@ write-lines-requires c κs =
 slice-aggregate-stop-2 : tie.Need-slice-aggregate-stop-2
 slice-aggregate-stop-2 c = search needs
 
-stop-requires-2 : tie.Need-stop-requires-2
-stop-requires-2 c κs = search needs
-
 returns : tie.Need-returns
 returns c = c .stop2 .ensures _
 
@@ -70,18 +58,18 @@ pub answer-spec : {M : Type 1} → statement M
 answer-spec =
     tie.close
     (tie.spec
-    room-requires
+    (λ c κs. tt)
     slice-aggregate-feed
-    feed-requires
+    (λ c κs. tt)
     enum-told
     slice-aggregate-stop
-    stop-requires
+    (λ c κs. tt)
     enum-known-filled
     array-share-prefix-room
     slice-aggregate-write-lines
     write-lines-requires
     slice-aggregate-stop-2
-    stop-requires-2
+    (λ c κs. tt)
     returns
     returns-2
     returns-3)

@@ -18,9 +18,6 @@ Inv-loop progress₀ progress = (Reached progress) × (progress .more ≡ true) 
 abbrev μ-loop : tie.MeasureT-loop
 μ-loop progress₀ progress = 2 ^ 64 - progress .count
 
-fresh-requires : tie.Need-fresh-requires Inv-loop μ-loop
-fresh-requires c κs = search needs
-
 loop-holds : tie.Need-loop-holds Inv-loop μ-loop
 loop-holds c = (started _ (c .fresh .ensures), refl, search needs)
 
@@ -50,7 +47,7 @@ answer-all-spec =
     (tie.spec
     Inv-loop
     μ-loop
-    fresh-requires
+    (λ c κs. tt)
     loop-holds
     proceed-requires
     returns

@@ -27,9 +27,6 @@ part-read-start c = search needs
 part-read-end : tie.Need-part-read-end Inv-loop μ-loop
 part-read-end c = search needs
 
-read-requires : tie.Need-read-requires Inv-loop μ-loop
-read-requires c κs = search needs
-
 same-length : tie.Need-same-length Inv-loop μ-loop
 same-length c = search needs
 
@@ -44,9 +41,6 @@ part-count-start c = search needs
 
 part-count-end : tie.Need-part-count-end Inv-loop μ-loop
 part-count-end c = search needs
-
-count-requires : tie.Need-count-requires Inv-loop μ-loop
-count-requires c κs = search needs
 
 add-done : tie.Need-add-done Inv-loop μ-loop
 add-done c = search needs
@@ -79,13 +73,13 @@ fill-spec =
     sub-read
     part-read-start
     part-read-end
-    read-requires
+    (λ c κs. tt)
     same-length
     returns
     sub-count
     part-count-start
     part-count-end
-    count-requires
+    (λ c κs. tt)
     add-done
     loop-less
     loop-again

@@ -11,26 +11,17 @@ use Rattle.benchtape.proofs.finish.Tie as tie
 slice-aggregate-edge-count : tie.Need-slice-aggregate-edge-count
 slice-aggregate-edge-count c = search needs
 
-edge-count-requires : tie.Need-edge-count-requires
-edge-count-requires c κs = search needs
-
 cast-edges : tie.Need-cast-edges
 cast-edges c = search needs
 
 slice-aggregate-write-end : tie.Need-slice-aggregate-write-end
 slice-aggregate-write-end c = search needs
 
-write-end-requires : tie.Need-write-end-requires
-write-end-requires c κs = search needs
-
 enum-told : tie.Need-enum-told
 enum-told c = search needs
 
 slice-aggregate-stop : tie.Need-slice-aggregate-stop
 slice-aggregate-stop c = search needs
-
-stop-requires : tie.Need-stop-requires
-stop-requires c κs = search needs
 
 enum-known-filled : tie.Need-enum-known-filled
 enum-known-filled c = search needs
@@ -53,9 +44,6 @@ write-last-requires c κs =
 slice-aggregate-stop-2 : tie.Need-slice-aggregate-stop-2
 slice-aggregate-stop-2 c = search needs
 
-stop-requires-2 : tie.Need-stop-requires-2
-stop-requires-2 c κs = search needs
-
 returns : tie.Need-returns
 returns c = search needs
 
@@ -70,19 +58,19 @@ finish-spec =
     tie.close
     (tie.spec
     slice-aggregate-edge-count
-    edge-count-requires
+    (λ c κs. tt)
     cast-edges
     slice-aggregate-write-end
-    write-end-requires
+    (λ c κs. tt)
     enum-told
     slice-aggregate-stop
-    stop-requires
+    (λ c κs. tt)
     enum-known-filled
     array-share-prefix-room
     slice-aggregate-write-last
     write-last-requires
     slice-aggregate-stop-2
-    stop-requires-2
+    (λ c κs. tt)
     returns
     returns-2
     returns-3)

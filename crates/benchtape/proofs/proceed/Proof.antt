@@ -6,23 +6,14 @@ use Rattle.benchtape.proofs.Going.{within, proceeded}
 use Rattle.benchtape.proofs.proceed.Statement.{statement}
 use Rattle.benchtape.proofs.proceed.Tie as tie
 
-chunk-requires : tie.Need-chunk-requires
-chunk-requires c κs = search needs
-
 slice-aggregate-fill : tie.Need-slice-aggregate-fill
 slice-aggregate-fill c = search needs
-
-fill-requires : tie.Need-fill-requires
-fill-requires c κs = search needs
 
 enum-told : tie.Need-enum-told
 enum-told c = search needs
 
 slice-aggregate-stop : tie.Need-slice-aggregate-stop
 slice-aggregate-stop c = search needs
-
-stop-requires : tie.Need-stop-requires
-stop-requires c κs = search needs
 
 enum-known-read : tie.Need-enum-known-read
 enum-known-read c = search needs
@@ -32,9 +23,6 @@ array-share-prefix-buffer c = within _ (c .before .read .given .1) (c .before .b
 
 slice-aggregate-answer : tie.Need-slice-aggregate-answer
 slice-aggregate-answer c = within _ (c .before .before .read .given .1) (c .before .before .before .before .before .fill .ensures) .1
-
-answer-requires : tie.Need-answer-requires
-answer-requires c κs = search needs
 
 returns : tie.Need-returns
 returns c =
@@ -50,15 +38,15 @@ pub proceed-spec : {M : Type 1} → statement M
 proceed-spec =
     tie.close
     (tie.spec
-    chunk-requires
+    (λ c κs. tt)
     slice-aggregate-fill
-    fill-requires
+    (λ c κs. tt)
     enum-told
     slice-aggregate-stop
-    stop-requires
+    (λ c κs. tt)
     enum-known-read
     array-share-prefix-buffer
     slice-aggregate-answer
-    answer-requires
+    (λ c κs. tt)
     returns
     returns-2)

@@ -5,11 +5,8 @@ use Rattle.benchtape.proofs.Going.{stopped}
 use Rattle.benchtape.proofs.stop.Statement.{statement}
 use Rattle.benchtape.proofs.stop.Tie as tie
 
-write-all-requires : tie.Need-write-all-requires
-write-all-requires c κs = search needs
-
 returns : tie.Need-returns
 returns c = stopped (c .before .before .before .args .progress)
 
 pub stop-spec : {M : Type 1} → statement M
-stop-spec = tie.close (tie.spec write-all-requires returns)
+stop-spec = tie.close (tie.spec (λ c κs. tt) returns)

@@ -19,17 +19,11 @@ returns : tie.Need-returns
 unfolding call-block of-state
 returns c = simp (lt-leb _ _ (c .if1 .taken))
 
-decode-requires : tie.Need-decode-requires
-decode-requires c κs = search needs
-
 enum-known-decoded : tie.Need-enum-known-decoded
 enum-known-decoded c = search needs
 
 enum-told : tie.Need-enum-told
 enum-told c = search needs
-
-refusal-code-requires : tie.Need-refusal-code-requires
-refusal-code-requires c κs = search needs
 
 returns-2 : tie.Need-returns-2
 unfolding call-block of-state step perform-decoded read-decoded
@@ -83,10 +77,10 @@ keeper-call-spec =
     tie.close
     (tie.spec
     returns
-    decode-requires
+    (λ c κs. tt)
     enum-known-decoded
     enum-told
-    refusal-code-requires
+    (λ c κs. tt)
     returns-2
     enum-known-call
     take-change-requires

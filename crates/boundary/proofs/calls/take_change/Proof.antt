@@ -27,12 +27,6 @@ slice-write-block c = search needs
 put-table-requires : tie.Need-put-table-requires
 put-table-requires c κs = simp length-set (omega (arith, c .before .before .before .before .before .before .before .before .pre))
 
-code-requires : tie.Need-code-requires
-code-requires c κs = search needs
-
-code-requires-2 : tie.Need-code-requires-2
-code-requires-2 c κs = search needs
-
 same-length : tie.Need-same-length
 same-length c =
     let d = c .before .before .before .before .before .before .before .before in
@@ -71,8 +65,8 @@ take-change-spec =
     enum-told
     slice-write-block
     put-table-requires
-    code-requires
-    code-requires-2
+    (λ c κs. tt)
+    (λ c κs. tt)
     same-length
     returns
     same-length-2

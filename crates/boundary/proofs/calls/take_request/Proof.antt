@@ -18,26 +18,17 @@ decided-requires c κs = search needs
 enum-told : tie.Need-enum-told
 enum-told c = search needs
 
-code-requires : tie.Need-code-requires
-code-requires c κs = search needs
-
 enum-known-stored : tie.Need-enum-known-stored
 enum-known-stored c = search needs
 
 store-at-requires : tie.Need-store-at-requires
 store-at-requires c κs = search needs
 
-code-requires-2 : tie.Need-code-requires-2
-code-requires-2 c κs = search needs
-
 enum-known-stored-2 : tie.Need-enum-known-stored-2
 enum-known-stored-2 c = search needs
 
 store-at-requires-2 : tie.Need-store-at-requires-2
 store-at-requires-2 c κs = search needs
-
-code-requires-3 : tie.Need-code-requires-3
-code-requires-3 c κs = search needs
 
 same-length : tie.Need-same-length
 same-length c = search needs
@@ -84,13 +75,13 @@ take-request-spec =
     (tie.spec
     decided-requires
     enum-told
-    code-requires
+    (λ c κs. tt)
     enum-known-stored
     store-at-requires
-    code-requires-2
+    (λ c κs. tt)
     enum-known-stored-2
     store-at-requires-2
-    code-requires-3
+    (λ c κs. tt)
     same-length
     returns
     same-length-2

@@ -8,18 +8,9 @@ use Rattle.boundary.specs.Block.{code-of}
 use Rattle.boundary.proofs.codes.code.Statement.{statement}
 use Rattle.boundary.proofs.codes.code.Tie as tie
 
-number-of-requires : tie.Need-number-of-requires
-number-of-requires c κs = search needs
-
-place-of-requires : tie.Need-place-of-requires
-place-of-requires c κs = search needs
-
-refusal-code-requires : tie.Need-refusal-code-requires
-refusal-code-requires c κs = search needs
-
 returns : tie.Need-returns
 unfolding code-of answer-number answer-place
 returns c = c .refusal-code .ensures .0 ∙ ap₂ (λ (n p : ℕ). 256 * n + p) (c .before .before .number-of .ensures) (c .before .place-of .ensures)
 
 pub code-spec : {M : Type 1} → statement M
-code-spec = tie.close (tie.spec number-of-requires place-of-requires refusal-code-requires returns)
+code-spec = tie.close (tie.spec (λ c κs. tt) (λ c κs. tt) (λ c κs. tt) returns)

@@ -17,23 +17,11 @@ returns : tie.Need-returns
 unfolding load-block of-state
 returns c = simp (lt-leb _ _ (c .if1 .taken))
 
-fresh-requires : tie.Need-fresh-requires
-fresh-requires c κs = search needs
-
-load-requires : tie.Need-load-requires
-load-requires c κs = search needs
-
 enum-told : tie.Need-enum-told
 enum-told c = search needs
 
 put-state-requires : tie.Need-put-state-requires
 put-state-requires c κs = search needs
-
-code-requires : tie.Need-code-requires
-code-requires c κs = search needs
-
-code-requires-2 : tie.Need-code-requires-2
-code-requires-2 c κs = search needs
 
 same-length : tie.Need-same-length
 same-length c = search needs
@@ -66,12 +54,12 @@ keeper-load-spec =
     tie.close
     (tie.spec
     returns
-    fresh-requires
-    load-requires
+    (λ c κs. tt)
+    (λ c κs. tt)
     enum-told
     put-state-requires
-    code-requires
-    code-requires-2
+    (λ c κs. tt)
+    (λ c κs. tt)
     same-length
     returns-2
     returns-3)

@@ -47,9 +47,6 @@ part-seats-end c = search needs
 shared-slice-read-save : tie.Need-shared-slice-read-save
 shared-slice-read-save c = search needs
 
-save-requires : tie.Need-save-requires
-save-requires c κs = search needs
-
 enum-known-filled : tie.Need-enum-known-filled
 enum-known-filled c = search needs
 
@@ -63,9 +60,6 @@ cast-result c =
 
 enum-known-filled-2 : tie.Need-enum-known-filled-2
 enum-known-filled-2 c = search needs
-
-refusal-code-requires : tie.Need-refusal-code-requires
-refusal-code-requires c κs = search needs
 
 add-result : tie.Need-add-result
 add-result c = search needs
@@ -109,11 +103,11 @@ keeper-save-spec =
     part-seats-start
     part-seats-end
     shared-slice-read-save
-    save-requires
+    (λ c κs. tt)
     enum-known-filled
     cast-result
     enum-known-filled-2
-    refusal-code-requires
+    (λ c κs. tt)
     add-result
     same-length
     returns-2

@@ -30,12 +30,6 @@ part-seats-start c = search needs
 part-seats-end : tie.Need-part-seats-end
 part-seats-end c = search needs
 
-ask-requires : tie.Need-ask-requires
-ask-requires c κs = search needs
-
-code-requires : tie.Need-code-requires
-code-requires c κs = search needs
-
 returns-2 : tie.Need-returns-2
 unfolding ask-block of-state
 returns-2 c = rw (le-leb _ _ (c .before .before .before .before .if1 .left)) (c .code .ensures ∙ ap code-of (c .before .ask .ensures _ _))
@@ -51,6 +45,6 @@ keeper-ask-spec =
     sub-seats
     part-seats-start
     part-seats-end
-    ask-requires
-    code-requires
+    (λ c κs. tt)
+    (λ c κs. tt)
     returns-2)

@@ -25,9 +25,6 @@ part-sets-end c = search needs
 shared-slice-read-direct-of : tie.Need-shared-slice-read-direct-of
 shared-slice-read-direct-of c = search needs
 
-direct-of-requires : tie.Need-direct-of-requires
-direct-of-requires c κs = search needs
-
 returns-2 : tie.Need-returns-2
 unfolding direct-block of-state direct edge below ordinary present effective
 returns-2 c = rw (le-leb _ _ (c .before .before .before .if1 .left)) (c .direct-of .ensures)
@@ -41,5 +38,5 @@ keeper-direct-spec =
     part-sets-start
     part-sets-end
     shared-slice-read-direct-of
-    direct-of-requires
+    (λ c κs. tt)
     returns-2)

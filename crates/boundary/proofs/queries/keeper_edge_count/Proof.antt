@@ -25,9 +25,6 @@ part-sets-end c = search needs
 shared-slice-read-edge-count : tie.Need-shared-slice-read-edge-count
 shared-slice-read-edge-count c = search needs
 
-edge-count-requires : tie.Need-edge-count-requires
-edge-count-requires c κs = search needs
-
 returns-2 : tie.Need-returns-2
 unfolding edge-count-block of-state edge-count edge below ordinary present effective
 returns-2 c = rw (le-leb _ _ (c .before .before .before .if1 .left)) (c .edge-count .ensures)
@@ -41,5 +38,5 @@ keeper-edge-count-spec =
     part-sets-start
     part-sets-end
     shared-slice-read-edge-count
-    edge-count-requires
+    (λ c κs. tt)
     returns-2)

@@ -25,9 +25,6 @@ part-sets-end c = search needs
 shared-slice-read-is-below : tie.Need-shared-slice-read-is-below
 shared-slice-read-is-below c = search needs
 
-is-below-requires : tie.Need-is-below-requires
-is-below-requires c κs = search needs
-
 returns-2 : tie.Need-returns-2
 unfolding below-block of-state below ordinary present effective
 returns-2 c = rw (le-leb _ _ (c .before .before .before .if1 .left)) (c .is-below .ensures)
@@ -41,5 +38,5 @@ keeper-is-below-spec =
     part-sets-start
     part-sets-end
     shared-slice-read-is-below
-    is-below-requires
+    (λ c κs. tt)
     returns-2)

@@ -20,9 +20,6 @@ part-conflicts-start c = search needs
 part-conflicts-end : tie.Need-part-conflicts-end
 part-conflicts-end c = search needs
 
-is-declared-requires : tie.Need-is-declared-requires
-is-declared-requires c κs = search needs
-
 returns-2 : tie.Need-returns-2
 unfolding declared-block of-state
 returns-2 c = rw (le-leb _ _ (c .before .before .if1 .left)) (c .is-declared .ensures)
@@ -35,5 +32,5 @@ keeper-is-declared-spec =
     sub-conflicts
     part-conflicts-start
     part-conflicts-end
-    is-declared-requires
+    (λ c κs. tt)
     returns-2)

@@ -25,9 +25,6 @@ part-sets-end c = search needs
 shared-slice-read-juniors-of : tie.Need-shared-slice-read-juniors-of
 shared-slice-read-juniors-of c = search needs
 
-juniors-of-requires : tie.Need-juniors-of-requires
-juniors-of-requires c κs = search needs
-
 returns-2 : tie.Need-returns-2
 unfolding juniors-block of-state juniors edge below ordinary present effective
 returns-2 c = rw (le-leb _ _ (c .before .before .before .if1 .left)) (c .juniors-of .ensures)
@@ -41,5 +38,5 @@ keeper-juniors-spec =
     part-sets-start
     part-sets-end
     shared-slice-read-juniors-of
-    juniors-of-requires
+    (λ c κs. tt)
     returns-2)

@@ -29,9 +29,6 @@ part-seats-start c = search needs
 part-seats-end : tie.Need-part-seats-end
 part-seats-end c = search needs
 
-held-by-requires : tie.Need-held-by-requires
-held-by-requires c κs = search needs
-
 returns-2 : tie.Need-returns-2
 unfolding held-block of-state
 returns-2 c = rw (le-leb _ _ (c .before .before .before .if1 .left)) (c .held-by .ensures _ _)
@@ -47,5 +44,5 @@ keeper-seat-holds-spec =
     sub-seats
     part-seats-start
     part-seats-end
-    held-by-requires
+    (λ c κs. tt)
     returns-2)

@@ -20,9 +20,6 @@ part-seats-start c = search needs
 part-seats-end : tie.Need-part-seats-end
 part-seats-end c = search needs
 
-roles-of-requires : tie.Need-roles-of-requires
-roles-of-requires c κs = search needs
-
 returns-2 : tie.Need-returns-2
 unfolding seat-roles-block of-state
 returns-2 c = rw (le-leb _ _ (c .before .before .if1 .left)) (c .roles-of .ensures)
@@ -30,4 +27,4 @@ returns-2 c = rw (le-leb _ _ (c .before .before .if1 .left)) (c .roles-of .ensur
 pub keeper-seat-roles-spec : {M : Type 1} → statement M
 keeper-seat-roles-spec =
     tie.close
-    (tie.spec returns sub-seats part-seats-start part-seats-end roles-of-requires returns-2)
+    (tie.spec returns sub-seats part-seats-start part-seats-end (λ c κs. tt) returns-2)

@@ -25,9 +25,6 @@ part-sets-end c = search needs
 shared-slice-read-seniors-of : tie.Need-shared-slice-read-seniors-of
 shared-slice-read-seniors-of c = search needs
 
-seniors-of-requires : tie.Need-seniors-of-requires
-seniors-of-requires c κs = search needs
-
 returns-2 : tie.Need-returns-2
 unfolding seniors-block of-state seniors edge below ordinary present effective
 returns-2 c = rw (le-leb _ _ (c .before .before .before .if1 .left)) (c .seniors-of .ensures)
@@ -41,5 +38,5 @@ keeper-seniors-spec =
     part-sets-start
     part-sets-end
     shared-slice-read-seniors-of
-    seniors-of-requires
+    (λ c κs. tt)
     returns-2)

@@ -8,9 +8,6 @@ use Rattle.graph.proofs.Judging.{stays, becomes}
 use Rattle.graph.proofs.changing.attempt.Statement.{statement}
 use Rattle.graph.proofs.changing.attempt.Tie as tie
 
-judge-requires : tie.Need-judge-requires
-judge-requires c κs = tt
-
 enum-told : tie.Need-enum-told
 enum-told c = search needs
 
@@ -31,4 +28,4 @@ returns-2 c = stays _ _ _ (c .before .before .judge .ensures) (c .enum-told2 .gi
 
 pub attempt-spec : {M : Type 1} → statement M
 attempt-spec =
-    tie.close (tie.spec judge-requires enum-told carry-out-requires enum-told-2 returns returns-2)
+    tie.close (tie.spec (λ c κs. tt) enum-told carry-out-requires enum-told-2 returns returns-2)

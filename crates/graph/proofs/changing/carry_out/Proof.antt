@@ -12,18 +12,6 @@ use Rattle.graph.proofs.Holding.{drawn-holds}
 use Rattle.graph.proofs.changing.carry_out.Statement.{statement}
 use Rattle.graph.proofs.changing.carry_out.Tie as tie
 
-draw-requires : tie.Need-draw-requires
-draw-requires c κs = tt
-
-senior-roles-requires : tie.Need-senior-roles-requires
-senior-roles-requires c κs = tt
-
-direct-sets-requires : tie.Need-direct-sets-requires
-direct-sets-requires c κs = tt
-
-edit-requires : tie.Need-edit-requires
-edit-requires c κs = tt
-
 -- After the edit the tables hold the edited drawing.
 held : (c : tie.After-edit) → (let p = c .before .before .before .before .before .before .before .before .args in Holds (edit (read-change (p .change)) (redraw (drawn-from (p .roles) (p .sets .now)))) (c .edit .result) (sets-in (c .edit .last .1 .0)) (c .edit .last .1 .1 .0))
 held c =
@@ -42,9 +30,9 @@ pub carry-out-spec : {M : Type 1} → statement M
 carry-out-spec =
     tie.close
     (tie.spec
-    draw-requires
-    senior-roles-requires
-    direct-sets-requires
-    edit-requires
+    (λ c κs. tt)
+    (λ c κs. tt)
+    (λ c κs. tt)
+    (λ c κs. tt)
     closed-requires
     returns)

@@ -7,20 +7,11 @@ use Rattle.graph.proofs.Closable.{closable, closed-tables}
 use Rattle.graph.proofs.changing.closed.Statement.{statement}
 use Rattle.graph.proofs.changing.closed.Tie as tie
 
-ordinary-roles-requires : tie.Need-ordinary-roles-requires
-ordinary-roles-requires c κs = tt
-
 array-read-union : tie.Need-array-read-union
 array-read-union c = search needs
 
-union-requires : tie.Need-union-requires
-union-requires c κs = tt
-
 array-write-counted : tie.Need-array-write-counted
 array-write-counted c = search needs
-
-senior-roles-requires : tie.Need-senior-roles-requires
-senior-roles-requires c κs = tt
 
 close-requires : tie.Need-close-requires
 unfolding at
@@ -41,10 +32,10 @@ pub closed-spec : {M : Type 1} → statement M
 closed-spec =
     tie.close
     (tie.spec
-    ordinary-roles-requires
+    (λ c κs. tt)
     array-read-union
-    union-requires
+    (λ c κs. tt)
     array-write-counted
-    senior-roles-requires
+    (λ c κs. tt)
     close-requires
     returns)

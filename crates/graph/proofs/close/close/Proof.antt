@@ -15,25 +15,13 @@ Inv-loop present directs juniors sets₀ done₀ rest₀ sets done rest = Doing 
 abbrev μ-loop : tie.MeasureT-loop
 μ-loop present directs juniors sets₀ done₀ rest₀ sets done rest = rest
 
-copied-sets-requires : tie.Need-copied-sets-requires Inv-loop μ-loop
-copied-sets-requires c κs = tt
-
-difference-requires : tie.Need-difference-requires Inv-loop μ-loop
-difference-requires c κs = tt
-
 loop-holds : tie.Need-loop-holds Inv-loop μ-loop
 loop-holds c =
     let p = c .before .before in
     doing-none (p .pre) (p .fits .present .fits) (c .before .copied-sets .ensures .1) (ap sets-in (c .before .copied-sets .ensures .0)) (c .difference .ensures)
 
-lowest-member-requires : tie.Need-lowest-member-requires Inv-loop μ-loop
-lowest-member-requires c κs = tt
-
 cast-r : tie.Need-cast-r Inv-loop μ-loop
 cast-r c = search needs
-
-lowest-alone-requires : tie.Need-lowest-alone-requires Inv-loop μ-loop
-lowest-alone-requires c κs = tt
 
 close-role-requires : tie.Need-close-role-requires Inv-loop μ-loop
 close-role-requires c κs =
@@ -42,9 +30,6 @@ close-role-requires c κs =
     let some = c .before .before .before .loop-test .taken in
     let m = c .before .before .lowest-member .ensures in
     (left-lowest (l .left) some m, (p .pre .ending, (l .memo, left-alone (l .left) some (c .lowest-alone .ensures) m)))
-
-without-lowest-requires : tie.Need-without-lowest-requires Inv-loop μ-loop
-without-lowest-requires c κs = tt
 
 loop-less : tie.Need-loop-less Inv-loop μ-loop
 loop-less c =
@@ -65,14 +50,14 @@ close-spec =
     (tie.spec
     Inv-loop
     μ-loop
-    copied-sets-requires
-    difference-requires
+    (λ c κs. tt)
+    (λ c κs. tt)
     loop-holds
-    lowest-member-requires
+    (λ c κs. tt)
     cast-r
-    lowest-alone-requires
+    (λ c κs. tt)
     close-role-requires
-    without-lowest-requires
+    (λ c κs. tt)
     loop-less
     loop-again
     returns)

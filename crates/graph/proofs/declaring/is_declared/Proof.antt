@@ -8,20 +8,8 @@ use Rattle.graph.specs.Conflicts.{conflict, declared}
 use Rattle.graph.proofs.declaring.is_declared.Statement.{statement}
 use Rattle.graph.proofs.declaring.is_declared.Tie as tie
 
-lower-of-requires : tie.Need-lower-of-requires
-lower-of-requires c κs = tt
-
-higher-of-requires : tie.Need-higher-of-requires
-higher-of-requires c κs = tt
-
 cast-if1 : tie.Need-cast-if1
 cast-if1 c = search needs
-
-entry-requires : tie.Need-entry-requires
-entry-requires c κs = tt
-
-member-requires : tie.Need-member-requires
-member-requires c κs = tt
 
 returns : tie.Need-returns
 unfolding conflict declared
@@ -37,4 +25,4 @@ returns-2 c = rw (← c .before .before .before .lower-of .ensures, ← c .befor
 pub is-declared-spec : {M : Type 1} → statement M
 is-declared-spec =
     tie.close
-    (tie.spec lower-of-requires higher-of-requires cast-if1 entry-requires member-requires returns returns-2)
+    (tie.spec (λ c κs. tt) (λ c κs. tt) cast-if1 (λ c κs. tt) (λ c κs. tt) returns returns-2)

@@ -9,9 +9,6 @@ use Rattle.graph.proofs.Judging.{stops, moves-on, ends, refused-first, 
 use Rattle.graph.proofs.declaring.judge_declare.Statement.{statement}
 use Rattle.graph.proofs.declaring.judge_declare.Tie as tie
 
-judge-pair-requires : tie.Need-judge-pair-requires
-judge-pair-requires c κs = tt
-
 enum-told : tie.Need-enum-told
 enum-told c = search needs
 
@@ -22,12 +19,6 @@ returns : tie.Need-returns
 unfolding declare-checks
 returns c = refused-first _ _ (c .before .before .judge-pair .ensures) (c .enum-told2 .given .1)
 
-is-declared-requires : tie.Need-is-declared-requires
-is-declared-requires c κs = tt
-
-refuse-requires : tie.Need-refuse-requires
-refuse-requires c κs = tt
-
 returns-2 : tie.Need-returns-2
 unfolding declare-checks
 returns-2 c =
@@ -35,12 +26,6 @@ returns-2 c =
     c .refuse .ensures
     ∙ sym (passed-first _ _ (b .before .before .before .judge-pair .ensures) (b .before .enum-told .given .1)
     ∙ stops _ _ (sym (b .is-declared .ensures) ∙ c .before .if1 .taken))
-
-offered-role-requires : tie.Need-offered-role-requires
-offered-role-requires c κs = tt
-
-refuse-requires-2 : tie.Need-refuse-requires-2
-refuse-requires-2 c κs = tt
 
 returns-3 : tie.Need-returns-3
 unfolding ordinary effective offered-role declare-checks
@@ -66,14 +51,14 @@ pub judge-declare-spec : {M : Type 1} → statement M
 judge-declare-spec =
     tie.close
     (tie.spec
-    judge-pair-requires
+    (λ c κs. tt)
     enum-told
     enum-told-2
     returns
-    is-declared-requires
-    refuse-requires
+    (λ c κs. tt)
+    (λ c κs. tt)
     returns-2
-    offered-role-requires
-    refuse-requires-2
+    (λ c κs. tt)
+    (λ c κs. tt)
     returns-3
     returns-4)

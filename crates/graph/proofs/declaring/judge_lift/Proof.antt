@@ -9,9 +9,6 @@ use Rattle.graph.proofs.Judging.{stops, moves-on, ends, refused-first, 
 use Rattle.graph.proofs.declaring.judge_lift.Statement.{statement}
 use Rattle.graph.proofs.declaring.judge_lift.Tie as tie
 
-judge-pair-requires : tie.Need-judge-pair-requires
-judge-pair-requires c κs = tt
-
 enum-told : tie.Need-enum-told
 enum-told c = search needs
 
@@ -21,12 +18,6 @@ enum-told-2 c = search needs
 returns : tie.Need-returns
 unfolding lift-checks
 returns c = refused-first _ _ (c .before .before .judge-pair .ensures) (c .enum-told2 .given .1)
-
-is-declared-requires : tie.Need-is-declared-requires
-is-declared-requires c κs = tt
-
-refuse-requires : tie.Need-refuse-requires
-refuse-requires c κs = tt
 
 returns-2 : tie.Need-returns-2
 unfolding lift-checks read-verdict
@@ -48,11 +39,11 @@ pub judge-lift-spec : {M : Type 1} → statement M
 judge-lift-spec =
     tie.close
     (tie.spec
-    judge-pair-requires
+    (λ c κs. tt)
     enum-told
     enum-told-2
     returns
-    is-declared-requires
-    refuse-requires
+    (λ c κs. tt)
+    (λ c κs. tt)
     returns-2
     returns-3)

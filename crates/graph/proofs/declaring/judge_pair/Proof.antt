@@ -7,22 +7,13 @@ use Rattle.graph.proofs.Judging.{stops, moves-on, ends}
 use Rattle.graph.proofs.declaring.judge_pair.Statement.{statement}
 use Rattle.graph.proofs.declaring.judge_pair.Tie as tie
 
-refuse-requires : tie.Need-refuse-requires
-refuse-requires c κs = tt
-
 returns : tie.Need-returns
 returns c = c .refuse .ensures ∙ sym (stops _ _ (le-leb _ _ (c .before .if1 .taken)))
-
-refuse-requires-2 : tie.Need-refuse-requires-2
-refuse-requires-2 c κs = tt
 
 returns-2 : tie.Need-returns-2
 returns-2 c =
     c .refuse2 .ensures
     ∙ sym (moves-on _ _ (lt-leb _ _ (c .before .before .before .if1 .left)) ∙ stops _ _ (le-leb _ _ (c .before .if2 .taken)))
-
-refuse-requires-3 : tie.Need-refuse-requires-3
-refuse-requires-3 c κs = tt
 
 returns-3 : tie.Need-returns-3
 returns-3 c =
@@ -40,4 +31,4 @@ returns-4 c =
 pub judge-pair-spec : {M : Type 1} → statement M
 judge-pair-spec =
     tie.close
-    (tie.spec refuse-requires returns refuse-requires-2 returns-2 refuse-requires-3 returns-3 returns-4)
+    (tie.spec (λ c κs. tt) returns (λ c κs. tt) returns-2 (λ c κs. tt) returns-3 returns-4)

@@ -10,15 +10,6 @@ use Rattle.graph.proofs.drawing.direct_of.Tie as tie
 cast-inherited : tie.Need-cast-inherited
 cast-inherited c = search needs
 
-inherited-requires : tie.Need-inherited-requires
-inherited-requires c κs = tt
-
-effective-of-requires : tie.Need-effective-of-requires
-effective-of-requires c κs = tt
-
-difference-requires : tie.Need-difference-requires
-difference-requires c κs = tt
-
 returns : tie.Need-returns
 unfolding direct effective
 returns c = c .difference .ensures ∙ rw (c .before .effective-of .ensures, c .before .before .inherited .ensures)
@@ -26,4 +17,4 @@ returns c = c .difference .ensures ∙ rw (c .before .effective-of .ensures, c .
 pub direct-of-spec : {M : Type 1} → statement M
 direct-of-spec =
     tie.close
-    (tie.spec cast-inherited inherited-requires effective-of-requires difference-requires returns)
+    (tie.spec cast-inherited (λ c κs. tt) (λ c κs. tt) (λ c κs. tt) returns)

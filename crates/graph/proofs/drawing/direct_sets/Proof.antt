@@ -20,39 +20,15 @@ Inv-loop all sets juniors direct₀ rest₀ direct rest = Filling (λ s. differe
 abbrev μ-loop : tie.MeasureT-loop
 μ-loop all sets juniors direct₀ rest₀ direct rest = rest
 
-whole-requires : tie.Need-whole-requires Inv-loop μ-loop
-whole-requires c κs = tt
-
 loop-holds : tie.Need-loop-holds Inv-loop μ-loop
 loop-holds c = filling-none _ _ (c .before .before .args .all) _ (search needs) (ap length (c .whole .ensures) ∙ length-table role-count _) (λ i. refl)
-
-lowest-member-requires : tie.Need-lowest-member-requires Inv-loop μ-loop
-lowest-member-requires c κs = tt
 
 cast-s : tie.Need-cast-s Inv-loop μ-loop
 cast-s c = search needs
 
-roles-at-requires : tie.Need-roles-at-requires Inv-loop μ-loop
-roles-at-requires c κs = tt
-
-union-at-requires : tie.Need-union-at-requires Inv-loop μ-loop
-union-at-requires c κs = tt
-
 slice-aggregate-store : tie.Need-slice-aggregate-store Inv-loop μ-loop
 unfolding sets-in
 slice-aggregate-store c = let w = c .before .before .before .before .before .before .loop .inv .whole in search needs
-
-entry-requires : tie.Need-entry-requires Inv-loop μ-loop
-entry-requires c κs = tt
-
-difference-requires : tie.Need-difference-requires Inv-loop μ-loop
-difference-requires c κs = tt
-
-store-requires : tie.Need-store-requires Inv-loop μ-loop
-store-requires c κs = tt
-
-without-lowest-requires : tie.Need-without-lowest-requires Inv-loop μ-loop
-without-lowest-requires c κs = tt
 
 loop-less : tie.Need-loop-less Inv-loop μ-loop
 loop-less c =
@@ -79,17 +55,17 @@ direct-sets-spec =
     (tie.spec
     Inv-loop
     μ-loop
-    whole-requires
+    (λ c κs. tt)
     loop-holds
-    lowest-member-requires
+    (λ c κs. tt)
     cast-s
-    roles-at-requires
-    union-at-requires
+    (λ c κs. tt)
+    (λ c κs. tt)
     slice-aggregate-store
-    entry-requires
-    difference-requires
-    store-requires
-    without-lowest-requires
+    (λ c κs. tt)
+    (λ c κs. tt)
+    (λ c κs. tt)
+    (λ c κs. tt)
     loop-less
     loop-again
     returns)

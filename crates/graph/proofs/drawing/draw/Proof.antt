@@ -21,32 +21,14 @@ Inv-loop roles sets lower juniors₀ rest₀ juniors rest =
 abbrev μ-loop : tie.MeasureT-loop
 μ-loop roles sets lower juniors₀ rest₀ juniors rest = rest
 
-lowers-requires : tie.Need-lowers-requires Inv-loop μ-loop
-lowers-requires c κs = tt
-
-senior-roles-requires : tie.Need-senior-roles-requires Inv-loop μ-loop
-senior-roles-requires c κs = tt
-
 loop-holds : tie.Need-loop-holds Inv-loop μ-loop
 loop-holds c = filling-none _ _ (c .senior-roles .result) _ (search needs) (ap length (c .before .lowers .ensures) ∙ length-table role-count _) (λ i. refl)
-
-lowest-member-requires : tie.Need-lowest-member-requires Inv-loop μ-loop
-lowest-member-requires c κs = tt
 
 cast-s : tie.Need-cast-s Inv-loop μ-loop
 cast-s c = search needs
 
 slice-aggregate-roles-at : tie.Need-slice-aggregate-roles-at Inv-loop μ-loop
 slice-aggregate-roles-at c = search needs
-
-roles-at-requires : tie.Need-roles-at-requires Inv-loop μ-loop
-roles-at-requires c κs = tt
-
-under-some-requires : tie.Need-under-some-requires Inv-loop μ-loop
-under-some-requires c κs = tt
-
-difference-requires : tie.Need-difference-requires Inv-loop μ-loop
-difference-requires c κs = tt
 
 mul-juniors : tie.Need-mul-juniors Inv-loop μ-loop
 mul-juniors c = search needs
@@ -55,9 +37,6 @@ array-write-juniors : tie.Need-array-write-juniors Inv-loop μ-loop
 array-write-juniors c =
     let b = c .before .before .before .before .before in
     left-lowest (b .before .before .loop .inv .left) (b .before .loop-test .taken) (b .lowest-member .ensures)
-
-without-lowest-requires : tie.Need-without-lowest-requires Inv-loop μ-loop
-without-lowest-requires c κs = tt
 
 loop-less : tie.Need-loop-less Inv-loop μ-loop
 loop-less c =
@@ -85,18 +64,18 @@ draw-spec =
     (tie.spec
     Inv-loop
     μ-loop
-    lowers-requires
-    senior-roles-requires
+    (λ c κs. tt)
+    (λ c κs. tt)
     loop-holds
-    lowest-member-requires
+    (λ c κs. tt)
     cast-s
     slice-aggregate-roles-at
-    roles-at-requires
-    under-some-requires
-    difference-requires
+    (λ c κs. tt)
+    (λ c κs. tt)
+    (λ c κs. tt)
     mul-juniors
     array-write-juniors
-    without-lowest-requires
+    (λ c κs. tt)
     loop-less
     loop-again
     returns)

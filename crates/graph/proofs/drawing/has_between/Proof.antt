@@ -24,23 +24,11 @@ Inv-loop roles sets r s rest₀ rest = Search role-count (between roles sets r s
 abbrev μ-loop : tie.MeasureT-loop
 μ-loop roles sets r s rest₀ rest = rest
 
-ordinary-roles-requires : tie.Need-ordinary-roles-requires Inv-loop μ-loop
-ordinary-roles-requires c κs = tt
-
 loop-holds : tie.Need-loop-holds Inv-loop μ-loop
 loop-holds c = starts role-count _ _ (search needs)
 
-lowest-member-requires : tie.Need-lowest-member-requires Inv-loop μ-loop
-lowest-member-requires c κs = tt
-
 cast-t : tie.Need-cast-t Inv-loop μ-loop
 cast-t c = search needs
-
-lies-below-requires : tie.Need-lies-below-requires Inv-loop μ-loop
-lies-below-requires c κs = tt
-
-lies-below-requires-2 : tie.Need-lies-below-requires-2 Inv-loop μ-loop
-lies-below-requires-2 c κs = tt
 
 returns : tie.Need-returns Inv-loop μ-loop
 returns c =
@@ -50,9 +38,6 @@ returns c =
     any-hit (b .before .before .loop .inv) (b .before .loop-test .taken) (b .lowest-member .ensures)
     (rw (← c .before .before .before .lies-below .ensures, ← c .before .lies-below2 .ensures, c .before .before .if1 .taken, c .if2 .taken))
     ∙ rw (d .ordinary-roles .ensures) (between-tests (drawn-from (a .roles) (a .sets .now)) (a .r) (a .s))
-
-without-lowest-requires : tie.Need-without-lowest-requires Inv-loop μ-loop
-without-lowest-requires c κs = tt
 
 loop-less : tie.Need-loop-less Inv-loop μ-loop
 loop-less c =
@@ -80,14 +65,14 @@ has-between-spec =
     (tie.spec
     Inv-loop
     μ-loop
-    ordinary-roles-requires
+    (λ c κs. tt)
     loop-holds
-    lowest-member-requires
+    (λ c κs. tt)
     cast-t
-    lies-below-requires
-    lies-below-requires-2
+    (λ c κs. tt)
+    (λ c κs. tt)
     returns
-    without-lowest-requires
+    (λ c κs. tt)
     loop-less
     loop-again
     returns-2)

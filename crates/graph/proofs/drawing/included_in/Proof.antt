@@ -18,29 +18,8 @@ abbrev μ-loop : tie.MeasureT-loop
 loop-holds : tie.Need-loop-holds Inv-loop μ-loop
 loop-holds c = collecting-none _ (c .before .args .all) (search needs)
 
-lowest-member-requires : tie.Need-lowest-member-requires Inv-loop μ-loop
-lowest-member-requires c κs = tt
-
 cast-r : tie.Need-cast-r Inv-loop μ-loop
 cast-r c = search needs
-
-entry-requires : tie.Need-entry-requires Inv-loop μ-loop
-entry-requires c κs = tt
-
-strictly-included-requires : tie.Need-strictly-included-requires Inv-loop μ-loop
-strictly-included-requires c κs = tt
-
-lowest-alone-requires : tie.Need-lowest-alone-requires Inv-loop μ-loop
-lowest-alone-requires c κs = tt
-
-when-requires : tie.Need-when-requires Inv-loop μ-loop
-when-requires c κs = tt
-
-union-requires : tie.Need-union-requires Inv-loop μ-loop
-union-requires c κs = tt
-
-without-lowest-requires : tie.Need-without-lowest-requires Inv-loop μ-loop
-without-lowest-requires c κs = tt
 
 loop-less : tie.Need-loop-less Inv-loop μ-loop
 loop-less c =
@@ -64,14 +43,14 @@ included-in-spec =
     Inv-loop
     μ-loop
     loop-holds
-    lowest-member-requires
+    (λ c κs. tt)
     cast-r
-    entry-requires
-    strictly-included-requires
-    lowest-alone-requires
-    when-requires
-    union-requires
-    without-lowest-requires
+    (λ c κs. tt)
+    (λ c κs. tt)
+    (λ c κs. tt)
+    (λ c κs. tt)
+    (λ c κs. tt)
+    (λ c κs. tt)
     loop-less
     loop-again
     returns)

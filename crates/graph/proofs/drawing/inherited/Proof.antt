@@ -10,15 +10,6 @@ use Rattle.graph.proofs.DrawingCode.{inherited-least, inherited-ordinar
 use Rattle.graph.proofs.drawing.inherited.Statement.{statement}
 use Rattle.graph.proofs.drawing.inherited.Tie as tie
 
-lower-requires : tie.Need-lower-requires
-lower-requires c κs = tt
-
-difference-requires : tie.Need-difference-requires
-difference-requires c κs = tt
-
-union-at-requires : tie.Need-union-at-requires
-union-at-requires c κs = tt
-
 returns : tie.Need-returns
 returns c =
     let b = c .before .before in
@@ -33,4 +24,4 @@ returns c =
     ])
 
 pub inherited-spec : {M : Type 1} → statement M
-inherited-spec = tie.close (tie.spec lower-requires difference-requires union-at-requires returns)
+inherited-spec = tie.close (tie.spec (λ c κs. tt) (λ c κs. tt) (λ c κs. tt) returns)

@@ -6,23 +6,11 @@ use Rattle.graph.proofs.DrawingCode.{direct-member}
 use Rattle.graph.proofs.drawing.is_direct.Statement.{statement}
 use Rattle.graph.proofs.drawing.is_direct.Tie as tie
 
-effective-of-requires : tie.Need-effective-of-requires
-effective-of-requires c κs = tt
-
-member-requires : tie.Need-member-requires
-member-requires c κs = tt
-
 returns : tie.Need-returns
 returns c = rw (direct-member, ← c .before .before .effective-of .ensures, ← c .before .member .ensures, not-true (c .before .member .result) (c .if1 .taken))
 
 cast-inherited : tie.Need-cast-inherited
 cast-inherited c = search needs
-
-inherited-requires : tie.Need-inherited-requires
-inherited-requires c κs = tt
-
-member-requires-2 : tie.Need-member-requires-2
-member-requires-2 c κs = tt
 
 returns-2 : tie.Need-returns-2
 returns-2 c =
@@ -33,10 +21,10 @@ pub is-direct-spec : {M : Type 1} → statement M
 is-direct-spec =
     tie.close
     (tie.spec
-    effective-of-requires
-    member-requires
+    (λ c κs. tt)
+    (λ c κs. tt)
     returns
     cast-inherited
-    inherited-requires
-    member-requires-2
+    (λ c κs. tt)
+    (λ c κs. tt)
     returns-2)

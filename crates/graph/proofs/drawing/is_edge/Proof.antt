@@ -12,12 +12,6 @@ cast-junior c = search needs
 cast-senior : tie.Need-cast-senior
 cast-senior c = search needs
 
-lies-below-requires : tie.Need-lies-below-requires
-lies-below-requires c κs = tt
-
-has-between-requires : tie.Need-has-between-requires
-has-between-requires c κs = tt
-
 returns : tie.Need-returns
 unfolding edge drawn
 returns c = rw (c .has-between .ensures, ← c .before .before .lies-below .ensures, c .before .if1 .taken)
@@ -29,4 +23,4 @@ returns-2 c = rw (← c .before .lies-below .ensures, c .if1 .left)
 pub is-edge-spec : {M : Type 1} → statement M
 is-edge-spec =
     tie.close
-    (tie.spec cast-junior cast-senior lies-below-requires has-between-requires returns returns-2)
+    (tie.spec cast-junior cast-senior (λ c κs. tt) (λ c κs. tt) returns returns-2)

@@ -10,15 +10,6 @@ use Rattle.graph.proofs.drawing.juniors_of.Tie as tie
 cast-lower : tie.Need-cast-lower
 cast-lower c = search needs
 
-lower-requires : tie.Need-lower-requires
-lower-requires c κs = tt
-
-all-lower-requires : tie.Need-all-lower-requires
-all-lower-requires c κs = tt
-
-difference-requires : tie.Need-difference-requires
-difference-requires c κs = tt
-
 returns : tie.Need-returns
 returns c =
     let a = c .before .before .before .before .before .args in
@@ -26,4 +17,4 @@ returns c =
 
 pub juniors-of-spec : {M : Type 1} → statement M
 juniors-of-spec =
-    tie.close (tie.spec cast-lower lower-requires all-lower-requires difference-requires returns)
+    tie.close (tie.spec cast-lower (λ c κs. tt) (λ c κs. tt) (λ c κs. tt) returns)

@@ -8,28 +8,10 @@ use Rattle.graph.proofs.DrawingCode.{found-ordinary, not-ordinary, belo
 use Rattle.graph.proofs.drawing.lower.Statement.{statement}
 use Rattle.graph.proofs.drawing.lower.Tie as tie
 
-ordinary-roles-requires : tie.Need-ordinary-roles-requires
-ordinary-roles-requires c κs = tt
-
-union-requires : tie.Need-union-requires
-union-requires c κs = tt
-
 returns : tie.Need-returns
 returns c =
     let a = c .before .before .before .before .args in
     c .union .ensures ∙ rw (c .before .before .ordinary-roles .ensures, c .before .if1 .taken) (below-top (drawn-from (a .roles) (a .sets .now)) (search needs))
-
-member-requires : tie.Need-member-requires
-member-requires c κs = tt
-
-entry-requires : tie.Need-entry-requires
-entry-requires c κs = tt
-
-included-in-requires : tie.Need-included-in-requires
-included-in-requires c κs = tt
-
-union-requires-2 : tie.Need-union-requires-2
-union-requires-2 c κs = tt
 
 returns-2 : tie.Need-returns-2
 unfolding effective
@@ -52,12 +34,12 @@ pub lower-spec : {M : Type 1} → statement M
 lower-spec =
     tie.close
     (tie.spec
-    ordinary-roles-requires
-    union-requires
+    (λ c κs. tt)
+    (λ c κs. tt)
     returns
-    member-requires
-    entry-requires
-    included-in-requires
-    union-requires-2
+    (λ c κs. tt)
+    (λ c κs. tt)
+    (λ c κs. tt)
+    (λ c κs. tt)
     returns-2
     returns-3)

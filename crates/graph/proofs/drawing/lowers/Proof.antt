@@ -16,29 +16,17 @@ Inv-loop roles sets found₀ rest₀ found rest = Filling (roles-below (drawn-fr
 abbrev μ-loop : tie.MeasureT-loop
 μ-loop roles sets found₀ rest₀ found rest = rest
 
-senior-roles-requires : tie.Need-senior-roles-requires Inv-loop μ-loop
-senior-roles-requires c κs = tt
-
 loop-holds : tie.Need-loop-holds Inv-loop μ-loop
 loop-holds c = filling-none _ _ (c .senior-roles .result) _ (search needs) refl (at-replicate 64)
 
-lowest-member-requires : tie.Need-lowest-member-requires Inv-loop μ-loop
-lowest-member-requires c κs = tt
-
 cast-s : tie.Need-cast-s Inv-loop μ-loop
 cast-s c = search needs
-
-lower-requires : tie.Need-lower-requires Inv-loop μ-loop
-lower-requires c κs = tt
 
 mul-found : tie.Need-mul-found Inv-loop μ-loop
 mul-found c = search needs
 
 array-write-found : tie.Need-array-write-found Inv-loop μ-loop
 array-write-found c = left-lowest (c .before .before .before .loop .inv .left) (c .before .before .loop-test .taken) (c .before .lowest-member .ensures)
-
-without-lowest-requires : tie.Need-without-lowest-requires Inv-loop μ-loop
-without-lowest-requires c κs = tt
 
 loop-less : tie.Need-loop-less Inv-loop μ-loop
 loop-less c = let b = c .before .before .before in left-falls (b .before .loop .inv .left) (b .loop-test .taken) (c .without-lowest .ensures)
@@ -60,14 +48,14 @@ lowers-spec =
     (tie.spec
     Inv-loop
     μ-loop
-    senior-roles-requires
+    (λ c κs. tt)
     loop-holds
-    lowest-member-requires
+    (λ c κs. tt)
     cast-s
-    lower-requires
+    (λ c κs. tt)
     mul-found
     array-write-found
-    without-lowest-requires
+    (λ c κs. tt)
     loop-less
     loop-again
     returns)

@@ -21,9 +21,6 @@ abbrev μ-loop : tie.MeasureT-loop
 loop-holds : tie.Need-loop-holds Inv-loop μ-loop
 loop-holds c = summing-none _ (c .args .all) (search needs)
 
-lowest-member-requires : tie.Need-lowest-member-requires Inv-loop μ-loop
-lowest-member-requires c κs = tt
-
 cast-s : tie.Need-cast-s Inv-loop μ-loop
 cast-s c = search needs
 
@@ -33,17 +30,11 @@ mul-size c = search needs
 element-copy-out-size : tie.Need-element-copy-out-size Inv-loop μ-loop
 element-copy-out-size c = left-lowest (c .before .before .loop .inv .left) (c .before .loop-test .taken) (c .lowest-member .ensures)
 
-size-requires : tie.Need-size-requires Inv-loop μ-loop
-size-requires c κs = tt
-
 add-total : tie.Need-add-total Inv-loop μ-loop
 add-total c =
     let b = c .before .before .before .before in
     let k : c .size .result ≤ 64 = rw (c .size .ensures) (size-bound 64 _) in
     omega (arith, summing-bound (b .loop .inv) (λ i. size-bound role-count (at (b .before .args .table .now) i)))
-
-without-lowest-requires : tie.Need-without-lowest-requires Inv-loop μ-loop
-without-lowest-requires c κs = tt
 
 loop-less : tie.Need-loop-less Inv-loop μ-loop
 loop-less c =
@@ -67,13 +58,13 @@ total-size-spec =
     Inv-loop
     μ-loop
     loop-holds
-    lowest-member-requires
+    (λ c κs. tt)
     cast-s
     mul-size
     element-copy-out-size
-    size-requires
+    (λ c κs. tt)
     add-total
-    without-lowest-requires
+    (λ c κs. tt)
     loop-less
     loop-again
     returns)

@@ -11,21 +11,6 @@ use Rattle.graph.proofs.editing.add_by_place.Tie as tie
 cast-single : tie.Need-cast-single
 cast-single c = search needs
 
-single-requires : tie.Need-single-requires
-single-requires c κs = tt
-
-give-requires : tie.Need-give-requires
-give-requires c κs = tt
-
-exchange-roles-requires : tie.Need-exchange-roles-requires
-exchange-roles-requires c κs = tt
-
-exchange-roles-requires-2 : tie.Need-exchange-roles-requires-2
-exchange-roles-requires-2 c κs = tt
-
-union-requires : tie.Need-union-requires
-union-requires c κs = tt
-
 -- The direct set is one of privileges.
 own-lt : (c : tie.After-single) → c .before .before .args .own .word < 2 ^ privilege-count
 own-lt c = search needs
@@ -42,9 +27,9 @@ add-by-place-spec =
     tie.close
     (tie.spec
     cast-single
-    single-requires
-    give-requires
-    exchange-roles-requires
-    exchange-roles-requires-2
-    union-requires
+    (λ c κs. tt)
+    (λ c κs. tt)
+    (λ c κs. tt)
+    (λ c κs. tt)
+    (λ c κs. tt)
     returns)

@@ -9,15 +9,6 @@ use Rattle.graph.proofs.editing.add_by_privileges.Tie as tie
 cast-single : tie.Need-cast-single
 cast-single c = search needs
 
-single-requires : tie.Need-single-requires
-single-requires c κs = tt
-
-give-requires : tie.Need-give-requires
-give-requires c κs = tt
-
-union-requires : tie.Need-union-requires
-union-requires c κs = tt
-
 returns : tie.Need-returns
 returns c g J h e =
     let p = c .before .before .before .before .before .args in
@@ -25,4 +16,4 @@ returns c g J h e =
 
 pub add-by-privileges-spec : {M : Type 1} → statement M
 add-by-privileges-spec =
-    tie.close (tie.spec cast-single single-requires give-requires union-requires returns)
+    tie.close (tie.spec cast-single (λ c κs. tt) (λ c κs. tt) (λ c κs. tt) returns)

@@ -8,17 +8,8 @@ use Rattle.graph.proofs.editing.add_edge.Tie as tie
 cast-single : tie.Need-cast-single
 cast-single c = search needs
 
-single-requires : tie.Need-single-requires
-single-requires c κs = tt
-
 cast-single-2 : tie.Need-cast-single-2
 cast-single-2 c = search needs
-
-single-requires-2 : tie.Need-single-requires-2
-single-requires-2 c κs = tt
-
-exchange-roles-requires : tie.Need-exchange-roles-requires
-exchange-roles-requires c κs = tt
 
 returns : tie.Need-returns
 returns c g D h e =
@@ -30,8 +21,8 @@ add-edge-spec =
     tie.close
     (tie.spec
     cast-single
-    single-requires
+    (λ c κs. tt)
     cast-single-2
-    single-requires-2
-    exchange-roles-requires
+    (λ c κs. tt)
+    (λ c κs. tt)
     returns)

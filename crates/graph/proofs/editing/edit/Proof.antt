@@ -8,44 +8,23 @@ use Rattle.graph.proofs.editing.edit.Tie as tie
 enum-known-change : tie.Need-enum-known-change
 enum-known-change c = search needs
 
-add-by-place-requires : tie.Need-add-by-place-requires
-add-by-place-requires c κs = tt
-
 enum-known-change-2 : tie.Need-enum-known-change-2
 enum-known-change-2 c = search needs
-
-add-by-privileges-requires : tie.Need-add-by-privileges-requires
-add-by-privileges-requires c κs = tt
 
 enum-known-change-3 : tie.Need-enum-known-change-3
 enum-known-change-3 c = search needs
 
-remove-role-requires : tie.Need-remove-role-requires
-remove-role-requires c κs = tt
-
 enum-known-change-4 : tie.Need-enum-known-change-4
 enum-known-change-4 c = search needs
-
-grant-requires : tie.Need-grant-requires
-grant-requires c κs = tt
 
 enum-known-change-5 : tie.Need-enum-known-change-5
 enum-known-change-5 c = search needs
 
-withdraw-requires : tie.Need-withdraw-requires
-withdraw-requires c κs = tt
-
 enum-known-change-6 : tie.Need-enum-known-change-6
 enum-known-change-6 c = search needs
 
-add-edge-requires : tie.Need-add-edge-requires
-add-edge-requires c κs = tt
-
 enum-known-change-7 : tie.Need-enum-known-change-7
 enum-known-change-7 c = search needs
-
-remove-edge-requires : tie.Need-remove-edge-requires
-remove-edge-requires c κs = tt
 
 returns : tie.Need-returns
 unfolding read-change
@@ -80,19 +59,19 @@ edit-spec =
     tie.close
     (tie.spec
     enum-known-change
-    add-by-place-requires
+    (λ c κs. tt)
     enum-known-change-2
-    add-by-privileges-requires
+    (λ c κs. tt)
     enum-known-change-3
-    remove-role-requires
+    (λ c κs. tt)
     enum-known-change-4
-    grant-requires
+    (λ c κs. tt)
     enum-known-change-5
-    withdraw-requires
+    (λ c κs. tt)
     enum-known-change-6
-    add-edge-requires
+    (λ c κs. tt)
     enum-known-change-7
-    remove-edge-requires
+    (λ c κs. tt)
     returns
     returns-2
     returns-3

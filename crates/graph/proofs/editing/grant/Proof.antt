@@ -8,15 +8,6 @@ use Rattle.graph.proofs.editing.grant.Tie as tie
 cast-single : tie.Need-cast-single
 cast-single c = search needs
 
-single-requires : tie.Need-single-requires
-single-requires c κs = tt
-
-single-requires-2 : tie.Need-single-requires-2
-single-requires-2 c κs = tt
-
-give-requires : tie.Need-give-requires
-give-requires c κs = tt
-
 returns : tie.Need-returns
 returns c g J h e =
     let p = c .before .before .before .before .before .args in
@@ -25,4 +16,4 @@ returns c g J h e =
 pub grant-spec : {M : Type 1} → statement M
 grant-spec =
     tie.close
-    (tie.spec cast-single single-requires single-requires-2 give-requires returns)
+    (tie.spec cast-single (λ c κs. tt) (λ c κs. tt) (λ c κs. tt) returns)

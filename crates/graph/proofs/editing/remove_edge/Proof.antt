@@ -11,27 +11,6 @@ cast-i c = search needs
 cast-j : tie.Need-cast-j
 cast-j c = search needs
 
-single-requires : tie.Need-single-requires
-single-requires c κs = tt
-
-single-requires-2 : tie.Need-single-requires-2
-single-requires-2 c κs = tt
-
-roles-at-requires : tie.Need-roles-at-requires
-roles-at-requires c κs = tt
-
-senior-roles-requires : tie.Need-senior-roles-requires
-senior-roles-requires c κs = tt
-
-seniors-in-requires : tie.Need-seniors-in-requires
-seniors-in-requires c κs = tt
-
-exchange-roles-requires : tie.Need-exchange-roles-requires
-exchange-roles-requires c κs = tt
-
-exchange-roles-requires-2 : tie.Need-exchange-roles-requires-2
-exchange-roles-requires-2 c κs = tt
-
 returns : tie.Need-returns
 returns c g D h e =
     let n = c .before .before .before .before in
@@ -46,11 +25,11 @@ remove-edge-spec =
     (tie.spec
     cast-i
     cast-j
-    single-requires
-    single-requires-2
-    roles-at-requires
-    senior-roles-requires
-    seniors-in-requires
-    exchange-roles-requires
-    exchange-roles-requires-2
+    (λ c κs. tt)
+    (λ c κs. tt)
+    (λ c κs. tt)
+    (λ c κs. tt)
+    (λ c κs. tt)
+    (λ c κs. tt)
+    (λ c κs. tt)
     returns)

@@ -8,39 +8,6 @@ use Rattle.graph.proofs.editing.remove_role.Tie as tie
 cast-i : tie.Need-cast-i
 cast-i c = search needs
 
-single-requires : tie.Need-single-requires
-single-requires c κs = tt
-
-senior-roles-requires : tie.Need-senior-roles-requires
-senior-roles-requires c κs = tt
-
-seniors-in-requires : tie.Need-seniors-in-requires
-seniors-in-requires c κs = tt
-
-entry-requires : tie.Need-entry-requires
-entry-requires c κs = tt
-
-when-requires : tie.Need-when-requires
-when-requires c κs = tt
-
-give-requires : tie.Need-give-requires
-give-requires c κs = tt
-
-take-requires : tie.Need-take-requires
-take-requires c κs = tt
-
-roles-at-requires : tie.Need-roles-at-requires
-roles-at-requires c κs = tt
-
-exchange-roles-requires : tie.Need-exchange-roles-requires
-exchange-roles-requires c κs = tt
-
-exchange-roles-requires-2 : tie.Need-exchange-roles-requires-2
-exchange-roles-requires-2 c κs = tt
-
-difference-requires : tie.Need-difference-requires
-difference-requires c κs = tt
-
 returns : tie.Need-returns
 returns c g h e =
     let u = c .before .before .before .before .before in
@@ -56,15 +23,15 @@ remove-role-spec =
     tie.close
     (tie.spec
     cast-i
-    single-requires
-    senior-roles-requires
-    seniors-in-requires
-    entry-requires
-    when-requires
-    give-requires
-    take-requires
-    roles-at-requires
-    exchange-roles-requires
-    exchange-roles-requires-2
-    difference-requires
+    (λ c κs. tt)
+    (λ c κs. tt)
+    (λ c κs. tt)
+    (λ c κs. tt)
+    (λ c κs. tt)
+    (λ c κs. tt)
+    (λ c κs. tt)
+    (λ c κs. tt)
+    (λ c κs. tt)
+    (λ c κs. tt)
+    (λ c κs. tt)
     returns)

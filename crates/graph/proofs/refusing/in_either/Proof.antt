@@ -4,12 +4,6 @@ use mathlib.Core.Path.{sym, _∙_}
 use Rattle.graph.proofs.refusing.in_either.Statement.{statement}
 use Rattle.graph.proofs.refusing.in_either.Tie as tie
 
-member-requires : tie.Need-member-requires
-member-requires c κs = tt
-
-member-requires-2 : tie.Need-member-requires-2
-member-requires-2 c κs = tt
-
 returns : tie.Need-returns
 returns c = simp (sym (c .before .member .ensures) ∙ c .if1 .taken) (c .if1 .taken)
 
@@ -17,4 +11,4 @@ returns-2 : tie.Need-returns-2
 returns-2 c = simp (sym (c .before .before .member .ensures) ∙ c .before .if1 .left) (c .member2 .ensures)
 
 pub in-either-spec : {M : Type 1} → statement M
-in-either-spec = tie.close (tie.spec member-requires member-requires-2 returns returns-2)
+in-either-spec = tie.close (tie.spec (λ c κs. tt) (λ c κs. tt) returns returns-2)

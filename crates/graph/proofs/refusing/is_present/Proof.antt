@@ -5,9 +5,6 @@ use Rattle.graph.specs.Graph.{is-end, present}
 use Rattle.graph.proofs.refusing.is_present.Statement.{statement}
 use Rattle.graph.proofs.refusing.is_present.Tie as tie
 
-member-requires : tie.Need-member-requires
-member-requires c κs = tt
-
 returns : tie.Need-returns
 unfolding present is-end
 returns c = simp (lt-ltb _ 2 (c .if1 .taken))
@@ -17,4 +14,4 @@ unfolding present is-end
 returns-2 c = simp (le-ltb _ 2 (c .before .if1 .left)) (c .member .ensures)
 
 pub is-present-spec : {M : Type 1} → statement M
-is-present-spec = tie.close (tie.spec member-requires returns returns-2)
+is-present-spec = tie.close (tie.spec (λ c κs. tt) returns returns-2)

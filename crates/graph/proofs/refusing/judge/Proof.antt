@@ -10,44 +10,23 @@ use Rattle.graph.proofs.refusing.judge.Tie as tie
 enum-known-change : tie.Need-enum-known-change
 enum-known-change c = search needs
 
-judge-add-by-place-requires : tie.Need-judge-add-by-place-requires
-judge-add-by-place-requires c κs = tt
-
 enum-known-change-2 : tie.Need-enum-known-change-2
 enum-known-change-2 c = search needs
-
-judge-add-by-privileges-requires : tie.Need-judge-add-by-privileges-requires
-judge-add-by-privileges-requires c κs = tt
 
 enum-known-change-3 : tie.Need-enum-known-change-3
 enum-known-change-3 c = search needs
 
-judge-role-requires : tie.Need-judge-role-requires
-judge-role-requires c κs = tt
-
 enum-known-change-4 : tie.Need-enum-known-change-4
 enum-known-change-4 c = search needs
-
-judge-grant-requires : tie.Need-judge-grant-requires
-judge-grant-requires c κs = tt
 
 enum-known-change-5 : tie.Need-enum-known-change-5
 enum-known-change-5 c = search needs
 
-judge-withdraw-requires : tie.Need-judge-withdraw-requires
-judge-withdraw-requires c κs = tt
-
 enum-known-change-6 : tie.Need-enum-known-change-6
 enum-known-change-6 c = search needs
 
-judge-add-edge-requires : tie.Need-judge-add-edge-requires
-judge-add-edge-requires c κs = tt
-
 enum-known-change-7 : tie.Need-enum-known-change-7
 enum-known-change-7 c = search needs
-
-judge-remove-edge-requires : tie.Need-judge-remove-edge-requires
-judge-remove-edge-requires c κs = tt
 
 returns : tie.Need-returns
 unfolding read-change
@@ -82,19 +61,19 @@ judge-spec =
     tie.close
     (tie.spec
     enum-known-change
-    judge-add-by-place-requires
+    (λ c κs. tt)
     enum-known-change-2
-    judge-add-by-privileges-requires
+    (λ c κs. tt)
     enum-known-change-3
-    judge-role-requires
+    (λ c κs. tt)
     enum-known-change-4
-    judge-grant-requires
+    (λ c κs. tt)
     enum-known-change-5
-    judge-withdraw-requires
+    (λ c κs. tt)
     enum-known-change-6
-    judge-add-edge-requires
+    (λ c κs. tt)
     enum-known-change-7
-    judge-remove-edge-requires
+    (λ c κs. tt)
     returns
     returns-2
     returns-3

@@ -9,18 +9,12 @@ use Rattle.graph.proofs.Judging.{place-found, place-none}
 use Rattle.graph.proofs.refusing.judge_add_by_place.Statement.{statement}
 use Rattle.graph.proofs.refusing.judge_add_by_place.Tie as tie
 
-refuse-requires : tie.Need-refuse-requires
-refuse-requires c κs = tt
-
 returns : tie.Need-returns
 unfolding early verdict input-checks state-checks is-end effective
 returns c =
     simp
     (le-leb 64 _ (c .before .if1 .taken))
     (c .refuse .ensures)
-
-refuse-requires-2 : tie.Need-refuse-requires-2
-refuse-requires-2 c κs = tt
 
 returns-2 : tie.Need-returns-2
 unfolding early verdict input-checks state-checks is-end effective
@@ -31,12 +25,6 @@ returns-2 c =
     )
     (c .refuse2 .ensures)
 
-end-in-requires : tie.Need-end-in-requires
-end-in-requires c κs = tt
-
-refuse-requires-3 : tie.Need-refuse-requires-3
-refuse-requires-3 c κs = tt
-
 returns-3 : tie.Need-returns-3
 unfolding early verdict input-checks state-checks is-end effective
 returns-3 c =
@@ -46,12 +34,6 @@ returns-3 c =
       place-found _ (c .before .before .end-in .ensures) (c .before .if3 .taken),
     )
     (c .refuse3 .ensures ∙ ap (refused 3) (c .before .before .end-in .ensures))
-
-end-in-requires-2 : tie.Need-end-in-requires-2
-end-in-requires-2 c κs = tt
-
-refuse-requires-4 : tie.Need-refuse-requires-4
-refuse-requires-4 c κs = tt
 
 returns-4 : tie.Need-returns-4
 unfolding early verdict input-checks state-checks is-end effective
@@ -64,12 +46,6 @@ returns-4 c =
     )
     (c .refuse4 .ensures ∙ ap (refused 3) (c .before .before .end-in2 .ensures))
 
-in-either-requires : tie.Need-in-either-requires
-in-either-requires c κs = tt
-
-refuse-requires-5 : tie.Need-refuse-requires-5
-refuse-requires-5 c κs = tt
-
 returns-5 : tie.Need-returns-5
 unfolding early verdict input-checks state-checks is-end effective
 returns-5 c =
@@ -81,9 +57,6 @@ returns-5 c =
       sym (c .before .before .in-either .ensures) ∙ c .before .if5 .taken,
     )
     (c .refuse5 .ensures)
-
-judge-placing-requires : tie.Need-judge-placing-requires
-judge-placing-requires c κs = tt
 
 returns-6 : tie.Need-returns-6
 unfolding early verdict input-checks state-checks is-end effective read-verdict
@@ -101,18 +74,18 @@ pub judge-add-by-place-spec : {M : Type 1} → statement M
 judge-add-by-place-spec =
     tie.close
     (tie.spec
-    refuse-requires
+    (λ c κs. tt)
     returns
-    refuse-requires-2
+    (λ c κs. tt)
     returns-2
-    end-in-requires
-    refuse-requires-3
+    (λ c κs. tt)
+    (λ c κs. tt)
     returns-3
-    end-in-requires-2
-    refuse-requires-4
+    (λ c κs. tt)
+    (λ c κs. tt)
     returns-4
-    in-either-requires
-    refuse-requires-5
+    (λ c κs. tt)
+    (λ c κs. tt)
     returns-5
-    judge-placing-requires
+    (λ c κs. tt)
     returns-6)

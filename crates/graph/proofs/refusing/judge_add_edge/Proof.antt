@@ -9,9 +9,6 @@ use Rattle.graph.proofs.Judging.{stops, moves-on, ends, refused-first, 
 use Rattle.graph.proofs.refusing.judge_add_edge.Statement.{statement}
 use Rattle.graph.proofs.refusing.judge_add_edge.Tie as tie
 
-judge-two-roles-requires : tie.Need-judge-two-roles-requires
-judge-two-roles-requires c κs = tt
-
 enum-told : tie.Need-enum-told
 enum-told c = search needs
 
@@ -22,12 +19,6 @@ returns : tie.Need-returns
 unfolding early input-checks state-checks present
 returns c = refused-first _ _ (c .before .before .judge-two-roles .ensures) (c .enum-told2 .given .1)
 
-is-below-requires : tie.Need-is-below-requires
-is-below-requires c κs = tt
-
-refuse-requires : tie.Need-refuse-requires
-refuse-requires c κs = tt
-
 returns-2 : tie.Need-returns-2
 unfolding early input-checks state-checks present
 returns-2 c =
@@ -35,12 +26,6 @@ returns-2 c =
     c .refuse .ensures
     ∙ sym (passed-first _ _ (b .before .before .before .judge-two-roles .ensures) (b .before .enum-told .given .1)
     ∙ stops _ _ (sym (b .is-below .ensures) ∙ c .before .if1 .taken))
-
-is-below-requires-2 : tie.Need-is-below-requires-2
-is-below-requires-2 c κs = tt
-
-refuse-requires-2 : tie.Need-refuse-requires-2
-refuse-requires-2 c κs = tt
 
 returns-3 : tie.Need-returns-3
 unfolding early input-checks state-checks present
@@ -66,14 +51,14 @@ pub judge-add-edge-spec : {M : Type 1} → statement M
 judge-add-edge-spec =
     tie.close
     (tie.spec
-    judge-two-roles-requires
+    (λ c κs. tt)
     enum-told
     enum-told-2
     returns
-    is-below-requires
-    refuse-requires
+    (λ c κs. tt)
+    (λ c κs. tt)
     returns-2
-    is-below-requires-2
-    refuse-requires-2
+    (λ c κs. tt)
+    (λ c κs. tt)
     returns-3
     returns-4)

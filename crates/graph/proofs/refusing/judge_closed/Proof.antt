@@ -17,23 +17,11 @@ use Rattle.graph.proofs.refusing.judge_closed.Tie as tie
 enum-known-change : tie.Need-enum-known-change
 enum-known-change c = search needs
 
-still-below-requires : tie.Need-still-below-requires
-still-below-requires c κs = tt
-
-refuse-requires : tie.Need-refuse-requires
-refuse-requires c κs = tt
-
 returns : tie.Need-returns
 unfolding read-change still-below effective
 returns c =
     let b = c .before .before in
     rw (b .before .before .change .given .1) (c .refuse .ensures ∙ sym (stops _ _ (sym (b .still-below .ensures) ∙ c .before .if1 .taken)))
-
-judge-sets-requires : tie.Need-judge-sets-requires
-judge-sets-requires c κs = tt
-
-judge-sets-requires-2 : tie.Need-judge-sets-requires-2
-judge-sets-requires-2 c κs = tt
 
 returns-2 : tie.Need-returns-2
 unfolding read-change still-below effective
@@ -60,10 +48,10 @@ judge-closed-spec =
     tie.close
     (tie.spec
     enum-known-change
-    still-below-requires
-    refuse-requires
+    (λ c κs. tt)
+    (λ c κs. tt)
     returns
-    judge-sets-requires
-    judge-sets-requires-2
+    (λ c κs. tt)
+    (λ c κs. tt)
     returns-2
     returns-3)

@@ -10,9 +10,6 @@ use Rattle.graph.proofs.Judging.{ends, refused-first, then-stops, then-
 use Rattle.graph.proofs.refusing.judge_grant.Statement.{statement}
 use Rattle.graph.proofs.refusing.judge_grant.Tie as tie
 
-judge-role-privilege-requires : tie.Need-judge-role-privilege-requires
-judge-role-privilege-requires c κs = tt
-
 enum-told : tie.Need-enum-told
 enum-told c = search needs
 
@@ -22,15 +19,6 @@ enum-told-2 c = search needs
 returns : tie.Need-returns
 unfolding early input-checks state-checks present effective
 returns c = refused-first _ _ (c .before .before .judge-role-privilege .ensures) (c .enum-told2 .given .1)
-
-effective-of-requires : tie.Need-effective-of-requires
-effective-of-requires c κs = tt
-
-member-requires : tie.Need-member-requires
-member-requires c κs = tt
-
-refuse-requires : tie.Need-refuse-requires
-refuse-requires c κs = tt
 
 returns-2 : tie.Need-returns-2
 unfolding early input-checks state-checks present effective
@@ -54,12 +42,12 @@ pub judge-grant-spec : {M : Type 1} → statement M
 judge-grant-spec =
     tie.close
     (tie.spec
-    judge-role-privilege-requires
+    (λ c κs. tt)
     enum-told
     enum-told-2
     returns
-    effective-of-requires
-    member-requires
-    refuse-requires
+    (λ c κs. tt)
+    (λ c κs. tt)
+    (λ c κs. tt)
     returns-2
     returns-3)

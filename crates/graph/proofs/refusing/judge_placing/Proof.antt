@@ -8,12 +8,6 @@ use Rattle.graph.proofs.Judging.{present-by, absent-by, place-found, pl
 use Rattle.graph.proofs.refusing.judge_placing.Statement.{statement}
 use Rattle.graph.proofs.refusing.judge_placing.Tie as tie
 
-is-present-requires : tie.Need-is-present-requires
-is-present-requires c κs = tt
-
-refuse-requires : tie.Need-refuse-requires
-refuse-requires c κs = tt
-
 returns : tie.Need-returns
 unfolding early verdict input-checks state-checks is-end effective
 returns c =
@@ -21,12 +15,6 @@ returns c =
     simp
     (present-by _ sets _ (c .before .before .is-present .ensures) (c .before .if1 .taken))
     (c .refuse .ensures)
-
-absent-in-requires : tie.Need-absent-in-requires
-absent-in-requires c κs = tt
-
-refuse-requires-2 : tie.Need-refuse-requires-2
-refuse-requires-2 c κs = tt
 
 returns-2 : tie.Need-returns-2
 unfolding early verdict input-checks state-checks is-end effective
@@ -38,12 +26,6 @@ returns-2 c =
     )
     (c .refuse2 .ensures ∙ ap (refused 21) (absent-by _ sets _ (c .before .before .absent-in .ensures)))
 
-absent-in-requires-2 : tie.Need-absent-in-requires-2
-absent-in-requires-2 c κs = tt
-
-refuse-requires-3 : tie.Need-refuse-requires-3
-refuse-requires-3 c κs = tt
-
 returns-3 : tie.Need-returns-3
 unfolding early verdict input-checks state-checks is-end effective
 returns-3 c =
@@ -54,12 +36,6 @@ returns-3 c =
       place-found _ (absent-by _ sets _ (c .before .before .absent-in2 .ensures)) (c .before .if3 .taken),
     )
     (c .refuse3 .ensures ∙ ap (refused 21) (absent-by _ sets _ (c .before .before .absent-in2 .ensures)))
-
-circle-in-requires : tie.Need-circle-in-requires
-circle-in-requires c κs = tt
-
-refuse-requires-4 : tie.Need-refuse-requires-4
-refuse-requires-4 c κs = tt
 
 returns-4 : tie.Need-returns-4
 unfolding early verdict input-checks state-checks is-end effective
@@ -88,16 +64,16 @@ pub judge-placing-spec : {M : Type 1} → statement M
 judge-placing-spec =
     tie.close
     (tie.spec
-    is-present-requires
-    refuse-requires
+    (λ c κs. tt)
+    (λ c κs. tt)
     returns
-    absent-in-requires
-    refuse-requires-2
+    (λ c κs. tt)
+    (λ c κs. tt)
     returns-2
-    absent-in-requires-2
-    refuse-requires-3
+    (λ c κs. tt)
+    (λ c κs. tt)
     returns-3
-    circle-in-requires
-    refuse-requires-4
+    (λ c κs. tt)
+    (λ c κs. tt)
     returns-4
     returns-5)

@@ -8,18 +8,12 @@ use Rattle.graph.specs.Reading.{read-verdict}
 use Rattle.graph.proofs.refusing.judge_role_privilege.Statement.{statement}
 use Rattle.graph.proofs.refusing.judge_role_privilege.Tie as tie
 
-refuse-requires : tie.Need-refuse-requires
-refuse-requires c κs = tt
-
 returns : tie.Need-returns
 unfolding verdict is-end
 returns c =
     simp
     (le-leb 64 _ (c .before .if1 .taken))
     (c .refuse .ensures)
-
-refuse-requires-2 : tie.Need-refuse-requires-2
-refuse-requires-2 c κs = tt
 
 returns-2 : tie.Need-returns-2
 unfolding verdict is-end
@@ -30,9 +24,6 @@ returns-2 c =
     )
     (c .refuse2 .ensures)
 
-refuse-requires-3 : tie.Need-refuse-requires-3
-refuse-requires-3 c κs = tt
-
 returns-3 : tie.Need-returns-3
 unfolding verdict is-end
 returns-3 c =
@@ -42,12 +33,6 @@ returns-3 c =
       lt-ltb _ 2 (c .before .if3 .taken),
     )
     (c .refuse3 .ensures)
-
-is-present-requires : tie.Need-is-present-requires
-is-present-requires c κs = tt
-
-refuse-requires-4 : tie.Need-refuse-requires-4
-refuse-requires-4 c κs = tt
 
 returns-4 : tie.Need-returns-4
 unfolding verdict is-end
@@ -74,13 +59,13 @@ pub judge-role-privilege-spec : {M : Type 1} → statement M
 judge-role-privilege-spec =
     tie.close
     (tie.spec
-    refuse-requires
+    (λ c κs. tt)
     returns
-    refuse-requires-2
+    (λ c κs. tt)
     returns-2
-    refuse-requires-3
+    (λ c κs. tt)
     returns-3
-    is-present-requires
-    refuse-requires-4
+    (λ c κs. tt)
+    (λ c κs. tt)
     returns-4
     returns-5)

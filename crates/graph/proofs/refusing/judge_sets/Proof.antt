@@ -8,23 +8,11 @@ use Rattle.graph.proofs.Judging.{stops, moves-on, ends, place-found, pl
 use Rattle.graph.proofs.refusing.judge_sets.Statement.{statement}
 use Rattle.graph.proofs.refusing.judge_sets.Tie as tie
 
-empty-role-requires : tie.Need-empty-role-requires
-empty-role-requires c κs = tt
-
-refuse-requires : tie.Need-refuse-requires
-refuse-requires c κs = tt
-
 returns : tie.Need-returns
 unfolding ordinary effective empty-role closed-checks
 returns c =
     let e = c .before .before .empty-role .ensures in
     c .refuse .ensures ∙ ap (refused 27) e ∙ sym (stops _ _ (place-found _ e (c .before .if1 .taken)))
-
-twin-role-requires : tie.Need-twin-role-requires
-twin-role-requires c κs = tt
-
-refuse-requires-2 : tie.Need-refuse-requires-2
-refuse-requires-2 c κs = tt
 
 returns-2 : tie.Need-returns-2
 unfolding ordinary effective empty-role twin-role closed-checks
@@ -33,12 +21,6 @@ returns-2 c =
     c .refuse2 .ensures ∙ ap (refused 28) (b .twin-role .ensures)
     ∙ sym (moves-on _ _ (place-none _ (b .before .before .empty-role .ensures) (b .before .if1 .left))
     ∙ stops _ _ (place-found _ (b .twin-role .ensures) (c .before .if2 .taken)))
-
-pair-role-requires : tie.Need-pair-role-requires
-pair-role-requires c κs = tt
-
-refuse-requires-3 : tie.Need-refuse-requires-3
-refuse-requires-3 c κs = tt
 
 returns-3 : tie.Need-returns-3
 unfolding ordinary effective empty-role twin-role closed-checks
@@ -64,13 +46,13 @@ pub judge-sets-spec : {M : Type 1} → statement M
 judge-sets-spec =
     tie.close
     (tie.spec
-    empty-role-requires
-    refuse-requires
+    (λ c κs. tt)
+    (λ c κs. tt)
     returns
-    twin-role-requires
-    refuse-requires-2
+    (λ c κs. tt)
+    (λ c κs. tt)
     returns-2
-    pair-role-requires
-    refuse-requires-3
+    (λ c κs. tt)
+    (λ c κs. tt)
     returns-3
     returns-4)

@@ -8,18 +8,12 @@ use Rattle.graph.specs.Reading.{read-verdict}
 use Rattle.graph.proofs.refusing.judge_two_roles.Statement.{statement}
 use Rattle.graph.proofs.refusing.judge_two_roles.Tie as tie
 
-refuse-requires : tie.Need-refuse-requires
-refuse-requires c κs = tt
-
 returns : tie.Need-returns
 unfolding verdict is-end
 returns c =
     simp
     (le-leb 64 _ (c .before .if1 .taken))
     (c .refuse .ensures)
-
-refuse-requires-2 : tie.Need-refuse-requires-2
-refuse-requires-2 c κs = tt
 
 returns-2 : tie.Need-returns-2
 unfolding verdict is-end
@@ -29,9 +23,6 @@ returns-2 c =
       le-leb 64 _ (c .before .if2 .taken),
     )
     (c .refuse2 .ensures)
-
-refuse-requires-3 : tie.Need-refuse-requires-3
-refuse-requires-3 c κs = tt
 
 returns-3 : tie.Need-returns-3
 unfolding verdict is-end
@@ -43,9 +34,6 @@ returns-3 c =
     )
     (c .refuse3 .ensures)
 
-refuse-requires-4 : tie.Need-refuse-requires-4
-refuse-requires-4 c κs = tt
-
 returns-4 : tie.Need-returns-4
 unfolding verdict is-end
 returns-4 c =
@@ -56,9 +44,6 @@ returns-4 c =
       lt-ltb _ 2 (c .before .if4 .taken),
     )
     (c .refuse4 .ensures)
-
-refuse-requires-5 : tie.Need-refuse-requires-5
-refuse-requires-5 c κs = tt
 
 returns-5 : tie.Need-returns-5
 unfolding verdict is-end
@@ -72,12 +57,6 @@ returns-5 c =
     )
     (c .refuse5 .ensures)
 
-is-present-requires : tie.Need-is-present-requires
-is-present-requires c κs = tt
-
-refuse-requires-6 : tie.Need-refuse-requires-6
-refuse-requires-6 c κs = tt
-
 returns-6 : tie.Need-returns-6
 unfolding verdict is-end
 returns-6 c =
@@ -90,12 +69,6 @@ returns-6 c =
       sym (c .before .before .is-present .ensures) ∙ (not-true _ (c .before .if6 .taken)),
     )
     (c .refuse6 .ensures)
-
-is-present-requires-2 : tie.Need-is-present-requires-2
-is-present-requires-2 c κs = tt
-
-refuse-requires-7 : tie.Need-refuse-requires-7
-refuse-requires-7 c κs = tt
 
 returns-7 : tie.Need-returns-7
 unfolding verdict is-end
@@ -128,20 +101,20 @@ pub judge-two-roles-spec : {M : Type 1} → statement M
 judge-two-roles-spec =
     tie.close
     (tie.spec
-    refuse-requires
+    (λ c κs. tt)
     returns
-    refuse-requires-2
+    (λ c κs. tt)
     returns-2
-    refuse-requires-3
+    (λ c κs. tt)
     returns-3
-    refuse-requires-4
+    (λ c κs. tt)
     returns-4
-    refuse-requires-5
+    (λ c κs. tt)
     returns-5
-    is-present-requires
-    refuse-requires-6
+    (λ c κs. tt)
+    (λ c κs. tt)
     returns-6
-    is-present-requires-2
-    refuse-requires-7
+    (λ c κs. tt)
+    (λ c κs. tt)
     returns-7
     returns-8)

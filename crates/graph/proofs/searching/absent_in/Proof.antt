@@ -14,15 +14,6 @@ use Rattle.graph.proofs.DrawingCode.{member-ends}
 use Rattle.graph.proofs.searching.absent_in.Statement.{statement}
 use Rattle.graph.proofs.searching.absent_in.Tie as tie
 
-union-requires : tie.Need-union-requires
-union-requires c κs = tt
-
-difference-requires : tie.Need-difference-requires
-difference-requires c κs = tt
-
-lowest-role-requires : tie.Need-lowest-role-requires
-lowest-role-requires c κs = tt
-
 lowest-absent : (roles s : ℕ) → lowest-member role-count (difference s (union 3 roles)) ≡ lowest role-count (λ n. member n s && not (present (drawn-from roles []) n))
 unfolding lowest-member present
 lowest-absent roles s =
@@ -38,4 +29,4 @@ returns c =
     ∙ lowest-absent (c .before .before .before .args .roles) (c .before .before .before .args .s)
 
 pub absent-in-spec : {M : Type 1} → statement M
-absent-in-spec = tie.close (tie.spec union-requires difference-requires lowest-role-requires returns)
+absent-in-spec = tie.close (tie.spec (λ c κs. tt) (λ c κs. tt) (λ c κs. tt) returns)

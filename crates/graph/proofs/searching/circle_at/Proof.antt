@@ -6,12 +6,6 @@ use Rattle.graph.proofs.Searches.{circle-tests}
 use Rattle.graph.proofs.searching.circle_at.Statement.{statement}
 use Rattle.graph.proofs.searching.circle_at.Tie as tie
 
-member-requires : tie.Need-member-requires
-member-requires c κs = tt
-
-some-below-requires : tie.Need-some-below-requires
-some-below-requires c κs = tt
-
 returns : tie.Need-returns
 returns c =
     let a = c .before .before .before .args in
@@ -23,4 +17,4 @@ returns-2 c =
     rw (← circle-tests (drawn-from (a .roles) (a .sets .now)) (a .seniors) (a .j) (search needs), ← c .before .before .member .ensures, c .before .if1 .left) (c .some-below .ensures)
 
 pub circle-at-spec : {M : Type 1} → statement M
-circle-at-spec = tie.close (tie.spec member-requires some-below-requires returns returns-2)
+circle-at-spec = tie.close (tie.spec (λ c κs. tt) (λ c κs. tt) returns returns-2)

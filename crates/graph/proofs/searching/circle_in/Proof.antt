@@ -26,22 +26,13 @@ abbrev μ-loop : tie.MeasureT-loop
 loop-holds : tie.Need-loop-holds Inv-loop μ-loop
 loop-holds c = starts role-count _ _ (search needs)
 
-lowest-role-requires : tie.Need-lowest-role-requires Inv-loop μ-loop
-lowest-role-requires c κs = tt
-
 cast-i : tie.Need-cast-i Inv-loop μ-loop
 cast-i c = let l = visit-lt (c .before .before .loop .inv) (c .before .loop-test .taken) (c .lowest-role .ensures) in search needs
-
-circle-at-requires : tie.Need-circle-at-requires Inv-loop μ-loop
-circle-at-requires c κs = tt
 
 returns : tie.Need-returns Inv-loop μ-loop
 returns c =
     let b = c .before .before in
     hit (b .before .before .loop .inv) (b .before .loop-test .taken) (b .lowest-role .ensures) (sym (c .before .circle-at .ensures) ∙ c .if1 .taken)
-
-without-lowest-requires : tie.Need-without-lowest-requires Inv-loop μ-loop
-without-lowest-requires c κs = tt
 
 loop-less : tie.Need-loop-less Inv-loop μ-loop
 loop-less c =
@@ -64,11 +55,11 @@ circle-in-spec =
     Inv-loop
     μ-loop
     loop-holds
-    lowest-role-requires
+    (λ c κs. tt)
     cast-i
-    circle-at-requires
+    (λ c κs. tt)
     returns
-    without-lowest-requires
+    (λ c κs. tt)
     loop-less
     loop-again
     returns-2)

@@ -26,20 +26,11 @@ abbrev μ-loop : tie.MeasureT-loop
 loop-holds : tie.Need-loop-holds Inv-loop μ-loop
 loop-holds c = starts role-count _ _ (search needs)
 
-lowest-role-requires : tie.Need-lowest-role-requires Inv-loop μ-loop
-lowest-role-requires c κs = tt
-
 role-lt : (c : tie.After-lowest-role Inv-loop μ-loop) → c .lowest-role .result < role-count
 role-lt c = visit-lt (c .before .before .loop .inv) (c .before .loop-test .taken) (c .lowest-role .ensures)
 
 cast-i : tie.Need-cast-i Inv-loop μ-loop
 cast-i c = let l = role-lt c in search needs
-
-entry-requires : tie.Need-entry-requires Inv-loop μ-loop
-entry-requires c κs = tt
-
-equal-requires : tie.Need-equal-requires Inv-loop μ-loop
-equal-requires c κs = tt
 
 -- What the test says of the entry that was read.
 tested : (x : ℕ) {s t : ℕ} {b d : Bool} → s ≡ t → b ≡ eqb s x → b ≡ d → eqb t x ≡ d
@@ -49,9 +40,6 @@ returns : tie.Need-returns Inv-loop μ-loop
 returns c =
     let b = c .before .before .before in
     any-hit (b .before .before .loop .inv) (b .before .loop-test .taken) (b .lowest-role .ensures) (tested _ (c .before .before .entry .ensures) (c .before .equal .ensures) (c .if1 .taken))
-
-without-lowest-requires : tie.Need-without-lowest-requires Inv-loop μ-loop
-without-lowest-requires c κs = tt
 
 loop-less : tie.Need-loop-less Inv-loop μ-loop
 loop-less c =
@@ -73,12 +61,12 @@ has-set-spec =
     Inv-loop
     μ-loop
     loop-holds
-    lowest-role-requires
+    (λ c κs. tt)
     cast-i
-    entry-requires
-    equal-requires
+    (λ c κs. tt)
+    (λ c κs. tt)
     returns
-    without-lowest-requires
+    (λ c κs. tt)
     loop-less
     loop-again
     returns-2)

@@ -4,12 +4,6 @@ use Rattle.graph.specs.Conflicts.{holds-both}
 use Rattle.graph.proofs.searching.holds_both.Statement.{statement}
 use Rattle.graph.proofs.searching.holds_both.Tie as tie
 
-member-requires : tie.Need-member-requires
-member-requires c κs = tt
-
-member-requires-2 : tie.Need-member-requires-2
-member-requires-2 c κs = tt
-
 returns : tie.Need-returns
 unfolding holds-both
 returns c = rw (← c .before .before .member .ensures, c .before .if1 .taken) (c .member2 .ensures)
@@ -20,4 +14,4 @@ returns-2 c = rw (← c .before .member .ensures, c .if1 .left)
 
 pub holds-both-spec : {M : Type 1} → statement M
 holds-both-spec =
-    tie.close (tie.spec member-requires member-requires-2 returns returns-2)
+    tie.close (tie.spec (λ c κs. tt) (λ c κs. tt) returns returns-2)

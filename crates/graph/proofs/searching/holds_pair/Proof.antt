@@ -20,23 +20,8 @@ abbrev μ-loop : tie.MeasureT-loop
 loop-holds : tie.Need-loop-holds Inv-loop μ-loop
 loop-holds c = let s = c .before .args .s in starts privilege-count _ _ (search needs)
 
-is-empty-requires : tie.Need-is-empty-requires Inv-loop μ-loop
-is-empty-requires c κs = tt
-
-lowest-member-requires : tie.Need-lowest-member-requires Inv-loop μ-loop
-lowest-member-requires c κs = tt
-
 cast-p : tie.Need-cast-p Inv-loop μ-loop
 cast-p c = search needs
-
-without-lowest-requires : tie.Need-without-lowest-requires Inv-loop μ-loop
-without-lowest-requires c κs = tt
-
-entry-requires : tie.Need-entry-requires Inv-loop μ-loop
-entry-requires c κs = tt
-
-meets-requires : tie.Need-meets-requires Inv-loop μ-loop
-meets-requires c κs = tt
 
 returns : tie.Need-returns Inv-loop μ-loop
 unfolding holds-pair
@@ -75,12 +60,12 @@ holds-pair-spec =
     Inv-loop
     μ-loop
     loop-holds
-    is-empty-requires
-    lowest-member-requires
+    (λ c κs. tt)
+    (λ c κs. tt)
     cast-p
-    without-lowest-requires
-    entry-requires
-    meets-requires
+    (λ c κs. tt)
+    (λ c κs. tt)
+    (λ c κs. tt)
     returns
     loop-less
     loop-again

@@ -6,9 +6,6 @@ use Rattle.graph.proofs.Searches.{lowest-bound}
 use Rattle.graph.proofs.searching.lowest_role.Statement.{statement}
 use Rattle.graph.proofs.searching.lowest_role.Tie as tie
 
-lowest-member-requires : tie.Need-lowest-member-requires
-lowest-member-requires c κs = tt
-
 cast-result : tie.Need-cast-result
 cast-result c = record { fits = omega (arith, lowest-bound (c .before .args .s), c .lowest-member .ensures) }
 
@@ -16,4 +13,4 @@ returns : tie.Need-returns
 returns c = search needs
 
 pub lowest-role-spec : {M : Type 1} → statement M
-lowest-role-spec = tie.close (tie.spec lowest-member-requires cast-result returns)
+lowest-role-spec = tie.close (tie.spec (λ c κs. tt) cast-result returns)

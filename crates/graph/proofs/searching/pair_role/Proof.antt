@@ -33,41 +33,17 @@ Inv-roles roles sets conflicts place₀ rest₀ place rest = (place ≡ role-cou
 abbrev μ-roles : tie.MeasureT-roles
 μ-roles roles sets conflicts place₀ rest₀ place rest = rest
 
-ordinary-roles-requires : tie.Need-ordinary-roles-requires Inv-loop μ-loop Inv-roles μ-roles
-ordinary-roles-requires c κs = tt
-
 roles-holds : tie.Need-roles-holds Inv-loop μ-loop Inv-roles μ-roles
 roles-holds c = (search needs, rw (c .ordinary-roles .ensures) (starts role-count _ _ (difference-lt role-count _ _ (search needs))))
-
-lowest-role-requires : tie.Need-lowest-role-requires Inv-loop μ-loop Inv-roles μ-roles
-lowest-role-requires c κs = tt
 
 cast-i : tie.Need-cast-i Inv-loop μ-loop Inv-roles μ-roles
 cast-i c = let l = visit-lt (c .before .before .roles .inv .1) (c .before .roles-test .taken) (c .lowest-role .ensures) in search needs
 
-entry-requires : tie.Need-entry-requires Inv-loop μ-loop Inv-roles μ-roles
-entry-requires c κs = tt
-
 loop-holds : tie.Need-loop-holds Inv-loop μ-loop Inv-roles μ-roles
 loop-holds c = (c .before .before .before .roles .inv .0, starts privilege-count _ _ (search needs))
 
-is-empty-requires : tie.Need-is-empty-requires Inv-loop μ-loop Inv-roles μ-roles
-is-empty-requires c κs = tt
-
-lowest-member-requires : tie.Need-lowest-member-requires Inv-loop μ-loop Inv-roles μ-roles
-lowest-member-requires c κs = tt
-
 cast-p : tie.Need-cast-p Inv-loop μ-loop Inv-roles μ-roles
 cast-p c = search needs
-
-without-lowest-requires : tie.Need-without-lowest-requires Inv-loop μ-loop Inv-roles μ-roles
-without-lowest-requires c κs = tt
-
-entry-requires-2 : tie.Need-entry-requires-2 Inv-loop μ-loop Inv-roles μ-roles
-entry-requires-2 c κs = tt
-
-meets-requires : tie.Need-meets-requires Inv-loop μ-loop Inv-roles μ-roles
-meets-requires c κs = tt
 
 loop-less : tie.Need-loop-less Inv-loop μ-loop Inv-roles μ-roles
 loop-less c =
@@ -84,9 +60,6 @@ loop-again c =
     let e = b .before .lowest-member .ensures in
     let d = b .without-lowest .ensures in
     (z, goes-on s some e d (partner-test _ s some e d ∙ ap (meets _) (sym (c .before .before .entry2 .ensures)) ∙ sym (c .before .meets .ensures) ∙ c .if2 .left))
-
-without-lowest-requires-2 : tie.Need-without-lowest-requires-2 Inv-loop μ-loop Inv-roles μ-roles
-without-lowest-requires-2 c κs = tt
 
 roles-less : tie.Need-roles-less Inv-loop μ-loop Inv-roles μ-roles
 roles-less c =
@@ -133,21 +106,21 @@ pair-role-spec =
     μ-loop
     Inv-roles
     μ-roles
-    ordinary-roles-requires
+    (λ c κs. tt)
     roles-holds
-    lowest-role-requires
+    (λ c κs. tt)
     cast-i
-    entry-requires
+    (λ c κs. tt)
     loop-holds
-    is-empty-requires
-    lowest-member-requires
+    (λ c κs. tt)
+    (λ c κs. tt)
     cast-p
-    without-lowest-requires
-    entry-requires-2
-    meets-requires
+    (λ c κs. tt)
+    (λ c κs. tt)
+    (λ c κs. tt)
     loop-less
     loop-again
-    without-lowest-requires-2
+    (λ c κs. tt)
     roles-less
     roles-again
     returns

@@ -20,29 +20,11 @@ Inv-loop roles sets all j top rest₀ rest =
 abbrev μ-loop : tie.MeasureT-loop
 μ-loop roles sets all j top rest₀ rest = rest
 
-senior-roles-requires : tie.Need-senior-roles-requires Inv-loop μ-loop
-senior-roles-requires c κs = tt
-
-member-requires : tie.Need-member-requires Inv-loop μ-loop
-member-requires c κs = tt
-
 returns : tie.Need-returns Inv-loop μ-loop
 returns c =
     let a = c .before .before .before .before .args in
     none-below (drawn-from (a .roles) (a .sets .now)) (a .all) (a .j)
     (sym (c .before .member .ensures ∙ ap (member (a .j)) (c .before .before .senior-roles .ensures)) ∙ not-true _ (c .if1 .taken))
-
-entry-requires : tie.Need-entry-requires Inv-loop μ-loop
-entry-requires c κs = tt
-
-ordinary-roles-requires : tie.Need-ordinary-roles-requires Inv-loop μ-loop
-ordinary-roles-requires c κs = tt
-
-union-requires : tie.Need-union-requires Inv-loop μ-loop
-union-requires c κs = tt
-
-intersection-requires : tie.Need-intersection-requires Inv-loop μ-loop
-intersection-requires c κs = tt
 
 loop-holds : tie.Need-loop-holds Inv-loop μ-loop
 loop-holds c =
@@ -57,17 +39,8 @@ raised c =
     let p = c .before .before .before .before in
     sym (p .before .member .ensures ∙ ap (member _) (p .before .before .senior-roles .ensures)) ∙ not-false _ (p .if1 .left)
 
-lowest-role-requires : tie.Need-lowest-role-requires Inv-loop μ-loop
-lowest-role-requires c κs = tt
-
 cast-s : tie.Need-cast-s Inv-loop μ-loop
 cast-s c = let l = visit-lt (c .before .before .loop .inv) (c .before .loop-test .taken) (c .lowest-role .ensures) in search needs
-
-entry-requires-2 : tie.Need-entry-requires-2 Inv-loop μ-loop
-entry-requires-2 c κs = tt
-
-strictly-included-requires : tie.Need-strictly-included-requires Inv-loop μ-loop
-strictly-included-requires c κs = tt
 
 returns-2 : tie.Need-returns-2 Inv-loop μ-loop
 unfolding effective
@@ -83,9 +56,6 @@ returns-2 c =
       | inr (inr (f, h, e, i, t)) ↦ way-inside g (a .all) (a .j) (c .before .lowest-role .result) (sym (i .ensures ∙ rw (e .ensures, top)) ∙ t .taken)
     ])
     ∙ found-below g (a .all) (a .j) (raised (b .before))
-
-without-lowest-requires : tie.Need-without-lowest-requires Inv-loop μ-loop
-without-lowest-requires c κs = tt
 
 loop-less : tie.Need-loop-less Inv-loop μ-loop
 loop-less c =
@@ -116,20 +86,20 @@ some-below-spec =
     (tie.spec
     Inv-loop
     μ-loop
-    senior-roles-requires
-    member-requires
+    (λ c κs. tt)
+    (λ c κs. tt)
     returns
-    entry-requires
-    ordinary-roles-requires
-    union-requires
-    intersection-requires
+    (λ c κs. tt)
+    (λ c κs. tt)
+    (λ c κs. tt)
+    (λ c κs. tt)
     loop-holds
-    lowest-role-requires
+    (λ c κs. tt)
     cast-s
-    entry-requires-2
-    strictly-included-requires
+    (λ c κs. tt)
+    (λ c κs. tt)
     returns-2
-    without-lowest-requires
+    (λ c κs. tt)
     loop-less
     loop-again
     returns-3)

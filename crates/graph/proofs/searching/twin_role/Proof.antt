@@ -19,29 +19,14 @@ Inv-loop roles sets rest₀ rest = Search role-count (has-twin (drawn-from roles
 abbrev μ-loop : tie.MeasureT-loop
 μ-loop roles sets rest₀ rest = rest
 
-ordinary-roles-requires : tie.Need-ordinary-roles-requires Inv-loop μ-loop
-ordinary-roles-requires c κs = tt
-
 loop-holds : tie.Need-loop-holds Inv-loop μ-loop
 loop-holds c = rw (c .ordinary-roles .ensures) (starts role-count _ _ (difference-lt role-count _ _ (search needs)))
-
-lowest-role-requires : tie.Need-lowest-role-requires Inv-loop μ-loop
-lowest-role-requires c κs = tt
 
 role-lt : (c : tie.After-lowest-role Inv-loop μ-loop) → c .lowest-role .result < role-count
 role-lt c = visit-lt (c .before .before .loop .inv) (c .before .loop-test .taken) (c .lowest-role .ensures)
 
 cast-i : tie.Need-cast-i Inv-loop μ-loop
 cast-i c = let l = role-lt c in search needs
-
-without-lowest-requires : tie.Need-without-lowest-requires Inv-loop μ-loop
-without-lowest-requires c κs = tt
-
-entry-requires : tie.Need-entry-requires Inv-loop μ-loop
-entry-requires c κs = tt
-
-has-set-requires : tie.Need-has-set-requires Inv-loop μ-loop
-has-set-requires c κs = tt
 
 returns : tie.Need-returns Inv-loop μ-loop
 unfolding effective twin-role
@@ -78,13 +63,13 @@ twin-role-spec =
     (tie.spec
     Inv-loop
     μ-loop
-    ordinary-roles-requires
+    (λ c κs. tt)
     loop-holds
-    lowest-role-requires
+    (λ c κs. tt)
     cast-i
-    without-lowest-requires
-    entry-requires
-    has-set-requires
+    (λ c κs. tt)
+    (λ c κs. tt)
+    (λ c κs. tt)
     returns
     loop-less
     loop-again

@@ -14,9 +14,6 @@ mul-t6 c = search needs
 shared-slice-read-t8 : tie.Need-shared-slice-read-t8
 shared-slice-read-t8 c = search needs
 
-empty-requires : tie.Need-empty-requires
-empty-requires c κs = search needs
-
 returns : tie.Need-returns
 unfolding sets-in at
 returns c = search needs
@@ -26,4 +23,4 @@ unfolding sets-in
 returns-2 c = let a = c .before .before .before .args in c .empty .ensures ∙ sym (at-end (a .table .now) (a .n) (c .before .if1 .left))
 
 pub entry-spec : {M : Type 1} → statement M
-entry-spec = tie.close (tie.spec mul-t6 shared-slice-read-t8 empty-requires returns returns-2)
+entry-spec = tie.close (tie.spec mul-t6 shared-slice-read-t8 (λ c κs. tt) returns returns-2)

@@ -18,14 +18,8 @@ Inv-loop table₀ into out put rest₀ table rest = Filling (λ r. union (differ
 abbrev μ-loop : tie.MeasureT-loop
 μ-loop table₀ into out put rest₀ table rest = rest
 
-copied-roles-requires : tie.Need-copied-roles-requires Inv-loop μ-loop
-copied-roles-requires c κs = tt
-
 loop-holds : tie.Need-loop-holds Inv-loop μ-loop
 loop-holds c = filling-none _ _ (c .before .before .args .into) _ (search needs) (c .copied-roles .ensures .1) (λ i. refl)
-
-lowest-member-requires : tie.Need-lowest-member-requires Inv-loop μ-loop
-lowest-member-requires c κs = tt
 
 cast-r : tie.Need-cast-r Inv-loop μ-loop
 cast-r c = search needs
@@ -39,20 +33,11 @@ mul-difference c = search needs
 element-copy-out-difference : tie.Need-element-copy-out-difference Inv-loop μ-loop
 element-copy-out-difference c = below c
 
-difference-requires : tie.Need-difference-requires Inv-loop μ-loop
-difference-requires c κs = tt
-
-union-requires : tie.Need-union-requires Inv-loop μ-loop
-union-requires c κs = tt
-
 mul-table : tie.Need-mul-table Inv-loop μ-loop
 mul-table c = search needs
 
 element-write-table : tie.Need-element-write-table Inv-loop μ-loop
 element-write-table c = below (c .before .before .before)
-
-without-lowest-requires : tie.Need-without-lowest-requires Inv-loop μ-loop
-without-lowest-requires c κs = tt
 
 loop-less : tie.Need-loop-less Inv-loop μ-loop
 loop-less c =
@@ -82,17 +67,17 @@ exchange-roles-spec =
     (tie.spec
     Inv-loop
     μ-loop
-    copied-roles-requires
+    (λ c κs. tt)
     loop-holds
-    lowest-member-requires
+    (λ c κs. tt)
     cast-r
     mul-difference
     element-copy-out-difference
-    difference-requires
-    union-requires
+    (λ c κs. tt)
+    (λ c κs. tt)
     mul-table
     element-write-table
-    without-lowest-requires
+    (λ c κs. tt)
     loop-less
     loop-again
     returns)

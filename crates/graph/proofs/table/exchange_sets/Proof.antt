@@ -19,29 +19,8 @@ Inv-loop table₀ into out put rest₀ table rest = Filling (λ r. union (differ
 abbrev μ-loop : tie.MeasureT-loop
 μ-loop table₀ into out put rest₀ table rest = rest
 
-copied-sets-requires : tie.Need-copied-sets-requires Inv-loop μ-loop
-copied-sets-requires c κs = tt
-
 loop-holds : tie.Need-loop-holds Inv-loop μ-loop
 loop-holds c = filling-none _ _ (c .before .before .args .into) _ (search needs) (c .copied-sets .ensures .1) (λ i. refl)
-
-lowest-member-requires : tie.Need-lowest-member-requires Inv-loop μ-loop
-lowest-member-requires c κs = tt
-
-entry-requires : tie.Need-entry-requires Inv-loop μ-loop
-entry-requires c κs = tt
-
-difference-requires : tie.Need-difference-requires Inv-loop μ-loop
-difference-requires c κs = tt
-
-union-requires : tie.Need-union-requires Inv-loop μ-loop
-union-requires c κs = tt
-
-store-requires : tie.Need-store-requires Inv-loop μ-loop
-store-requires c κs = tt
-
-without-lowest-requires : tie.Need-without-lowest-requires Inv-loop μ-loop
-without-lowest-requires c κs = tt
 
 cast-r : tie.Need-cast-r Inv-loop μ-loop
 cast-r c = search needs
@@ -76,15 +55,15 @@ exchange-sets-spec =
     (tie.spec
     Inv-loop
     μ-loop
-    copied-sets-requires
+    (λ c κs. tt)
     loop-holds
-    lowest-member-requires
+    (λ c κs. tt)
     cast-r
-    entry-requires
-    difference-requires
-    union-requires
-    store-requires
-    without-lowest-requires
+    (λ c κs. tt)
+    (λ c κs. tt)
+    (λ c κs. tt)
+    (λ c κs. tt)
+    (λ c κs. tt)
     loop-less
     loop-again
     returns)

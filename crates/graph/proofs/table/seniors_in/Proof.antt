@@ -17,9 +17,6 @@ abbrev μ-loop : tie.MeasureT-loop
 loop-holds : tie.Need-loop-holds Inv-loop μ-loop
 loop-holds c = collecting-none _ (c .args .present) (search needs)
 
-lowest-member-requires : tie.Need-lowest-member-requires Inv-loop μ-loop
-lowest-member-requires c κs = tt
-
 cast-r : tie.Need-cast-r Inv-loop μ-loop
 cast-r c = search needs
 
@@ -28,21 +25,6 @@ mul-member c = search needs
 
 element-copy-out-member : tie.Need-element-copy-out-member Inv-loop μ-loop
 element-copy-out-member c = left-lowest (c .before .before .loop .inv .left) (c .before .loop-test .taken) (c .lowest-member .ensures)
-
-member-requires : tie.Need-member-requires Inv-loop μ-loop
-member-requires c κs = tt
-
-lowest-alone-requires : tie.Need-lowest-alone-requires Inv-loop μ-loop
-lowest-alone-requires c κs = tt
-
-when-requires : tie.Need-when-requires Inv-loop μ-loop
-when-requires c κs = tt
-
-union-requires : tie.Need-union-requires Inv-loop μ-loop
-union-requires c κs = tt
-
-without-lowest-requires : tie.Need-without-lowest-requires Inv-loop μ-loop
-without-lowest-requires c κs = tt
 
 loop-less : tie.Need-loop-less Inv-loop μ-loop
 loop-less c =
@@ -64,15 +46,15 @@ seniors-in-spec =
     Inv-loop
     μ-loop
     loop-holds
-    lowest-member-requires
+    (λ c κs. tt)
     cast-r
     mul-member
     element-copy-out-member
-    member-requires
-    lowest-alone-requires
-    when-requires
-    union-requires
-    without-lowest-requires
+    (λ c κs. tt)
+    (λ c κs. tt)
+    (λ c κs. tt)
+    (λ c κs. tt)
+    (λ c κs. tt)
     loop-less
     loop-again
     returns)

@@ -21,23 +21,8 @@ loop-holds c =
     let a = c .before .before .args in
     subst (Gathering (at (sets-in (a .table .now))) (a .all) (a .all)) (sym (c .empty .ensures)) (gathering-none _ (a .all) (search needs))
 
-empty-requires : tie.Need-empty-requires Inv-loop μ-loop
-empty-requires c κs = tt
-
-lowest-member-requires : tie.Need-lowest-member-requires Inv-loop μ-loop
-lowest-member-requires c κs = tt
-
 cast-r : tie.Need-cast-r Inv-loop μ-loop
 cast-r c = search needs
-
-entry-requires : tie.Need-entry-requires Inv-loop μ-loop
-entry-requires c κs = tt
-
-union-requires : tie.Need-union-requires Inv-loop μ-loop
-union-requires c κs = tt
-
-without-lowest-requires : tie.Need-without-lowest-requires Inv-loop μ-loop
-without-lowest-requires c κs = tt
 
 loop-less : tie.Need-loop-less Inv-loop μ-loop
 loop-less c =
@@ -59,13 +44,13 @@ union-at-spec =
     (tie.spec
     Inv-loop
     μ-loop
-    empty-requires
+    (λ c κs. tt)
     loop-holds
-    lowest-member-requires
+    (λ c κs. tt)
     cast-r
-    entry-requires
-    union-requires
-    without-lowest-requires
+    (λ c κs. tt)
+    (λ c κs. tt)
+    (λ c κs. tt)
     loop-less
     loop-again
     returns)

@@ -26,12 +26,6 @@ slice-aggregate-store : tie.Need-slice-aggregate-store Inv-loop μ-loop
 unfolding sets-in
 slice-aggregate-store c = let w = c .before .before .loop .inv .whole in search needs
 
-entry-requires : tie.Need-entry-requires Inv-loop μ-loop
-entry-requires c κs = tt
-
-store-requires : tie.Need-store-requires Inv-loop μ-loop
-store-requires c κs = tt
-
 add-i : tie.Need-add-i Inv-loop μ-loop
 add-i c = omega arith
 
@@ -55,8 +49,8 @@ whole-spec =
     μ-loop
     loop-holds
     slice-aggregate-store
-    entry-requires
-    store-requires
+    (λ c κs. tt)
+    (λ c κs. tt)
     add-i
     loop-less
     loop-again

@@ -12,35 +12,17 @@ use Rattle.seats.proofs.deciding.decide.Tie as tie
 enum-known-request : tie.Need-enum-known-request
 enum-known-request c = search needs
 
-decide-declare-requires : tie.Need-decide-declare-requires
-decide-declare-requires c κs = tt
-
 enum-known-request-2 : tie.Need-enum-known-request-2
 enum-known-request-2 c = search needs
-
-decide-lift-requires : tie.Need-decide-lift-requires
-decide-lift-requires c κs = tt
 
 enum-known-request-3 : tie.Need-enum-known-request-3
 enum-known-request-3 c = search needs
 
-decide-assign-requires : tie.Need-decide-assign-requires
-decide-assign-requires c κs = tt
-
 enum-known-request-4 : tie.Need-enum-known-request-4
 enum-known-request-4 c = search needs
 
-decide-unassign-requires : tie.Need-decide-unassign-requires
-decide-unassign-requires c κs = tt
-
 enum-known-request-5 : tie.Need-enum-known-request-5
 enum-known-request-5 c = search needs
-
-ask-requires : tie.Need-ask-requires
-ask-requires c κs = tt
-
-unchanged-requires : tie.Need-unchanged-requires
-unchanged-requires c κs = tt
 
 returns : tie.Need-returns
 unfolding read-request
@@ -71,16 +53,16 @@ decide-spec =
     tie.close
     (tie.spec
     enum-known-request
-    decide-declare-requires
+    (λ c κs. tt)
     enum-known-request-2
-    decide-lift-requires
+    (λ c κs. tt)
     enum-known-request-3
-    decide-assign-requires
+    (λ c κs. tt)
     enum-known-request-4
-    decide-unassign-requires
+    (λ c κs. tt)
     enum-known-request-5
-    ask-requires
-    unchanged-requires
+    (λ c κs. tt)
+    (λ c κs. tt)
     returns
     returns-2
     returns-3

@@ -19,14 +19,8 @@ use Rattle.seats.proofs.Requests.{assign-late, seat-numbers}
 use Rattle.seats.proofs.deciding.decide_assign.Statement.{statement}
 use Rattle.seats.proofs.deciding.decide_assign.Tie as tie
 
-judge-seat-requires : tie.Need-judge-seat-requires
-judge-seat-requires c κs = tt
-
 enum-known-verdict : tie.Need-enum-known-verdict
 enum-known-verdict c = search needs
-
-unchanged-requires : tie.Need-unchanged-requires
-unchanged-requires c κs = tt
 
 enum-told : tie.Need-enum-told
 enum-told c = search needs
@@ -36,18 +30,6 @@ cast-seat c = search needs
 
 cast-r : tie.Need-cast-r
 cast-r c = search needs
-
-roles-at-requires : tie.Need-roles-at-requires
-roles-at-requires c κs = tt
-
-member-requires : tie.Need-member-requires
-member-requires c κs = tt
-
-refusal-requires : tie.Need-refusal-requires
-refusal-requires c κs = tt
-
-unchanged-requires-2 : tie.Need-unchanged-requires-2
-unchanged-requires-2 c κs = tt
 
 returns : tie.Need-returns
 unfolding read-verdict present checks assigned
@@ -61,15 +43,6 @@ returns c =
     ∙ ap (λ (x : Answer). (x, s)) (c .before .refusal .ensures)
     ∙ sym (refused-by s (assign (g .a .0) (g .b .0)) (passed-first (seat-role-checks (s .graph) (g .a .0) (g .b .0)) (assign-late s (g .a .0) (g .b .0)) j told ∙ stops _ _ (ap (member _) (sym (m .before .roles-at .ensures)) ∙ sym (m .member .ensures) ∙ c .before .before .if1 .taken)))
 
-pair-seat-after-requires : tie.Need-pair-seat-after-requires
-pair-seat-after-requires c κs = tt
-
-refusal-requires-2 : tie.Need-refusal-requires-2
-refusal-requires-2 c κs = tt
-
-unchanged-requires-3 : tie.Need-unchanged-requires-3
-unchanged-requires-3 c κs = tt
-
 returns-2 : tie.Need-returns-2
 unfolding read-verdict present checks assigned after with-seats pair-seat held effective
 returns-2 c =
@@ -82,9 +55,6 @@ returns-2 c =
     c .unchanged3 .ensures s
     ∙ ap (λ (x : Answer). (x, s)) (c .before .refusal2 .ensures ∙ ap (refused 30) (q .pair-seat-after .ensures))
     ∙ sym (refused-by s (assign (g .a .0) (g .b .0)) (passed-first (seat-role-checks (s .graph) (g .a .0) (g .b .0)) (assign-late s (g .a .0) (g .b .0)) j told ∙ moves-on _ _ (ap (member _) (sym (m .before .roles-at .ensures)) ∙ sym (m .member .ensures) ∙ q .before .if1 .left) ∙ stops _ _ (place-found _ (q .pair-seat-after .ensures) (c .before .before .if2 .taken))))
-
-insert-requires : tie.Need-insert-requires
-insert-requires c κs = tt
 
 returns-3 : tie.Need-returns-3
 unfolding read-verdict read-answer present checks assigned
@@ -112,21 +82,21 @@ pub decide-assign-spec : {M : Type 1} → statement M
 decide-assign-spec =
     tie.close
     (tie.spec
-    judge-seat-requires
+    (λ c κs. tt)
     enum-known-verdict
-    unchanged-requires
+    (λ c κs. tt)
     enum-told
     cast-seat
     cast-r
-    roles-at-requires
-    member-requires
-    refusal-requires
-    unchanged-requires-2
+    (λ c κs. tt)
+    (λ c κs. tt)
+    (λ c κs. tt)
+    (λ c κs. tt)
     returns
-    pair-seat-after-requires
-    refusal-requires-2
-    unchanged-requires-3
+    (λ c κs. tt)
+    (λ c κs. tt)
+    (λ c κs. tt)
     returns-2
-    insert-requires
+    (λ c κs. tt)
     returns-3
     returns-4)

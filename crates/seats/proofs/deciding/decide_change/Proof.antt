@@ -10,17 +10,11 @@ use Rattle.seats.proofs.Changing.{next, removal-refused, checks-without
 use Rattle.seats.proofs.deciding.decide_change.Statement.{statement}
 use Rattle.seats.proofs.deciding.decide_change.Tie as tie
 
-judge-removal-requires : tie.Need-judge-removal-requires
-judge-removal-requires c κs = tt
-
 enum-known-verdict : tie.Need-enum-known-verdict
 enum-known-verdict c = search needs
 
 enum-told : tie.Need-enum-told
 enum-told c = search needs
-
-try-change-requires : tie.Need-try-change-requires
-try-change-requires c κs = tt
 
 returns : tie.Need-returns
 unfolding read-answer
@@ -44,9 +38,9 @@ pub decide-change-spec : {M : Type 1} → statement M
 decide-change-spec =
     tie.close
     (tie.spec
-    judge-removal-requires
+    (λ c κs. tt)
     enum-known-verdict
     enum-told
-    try-change-requires
+    (λ c κs. tt)
     returns
     returns-2)

@@ -19,26 +19,11 @@ use Rattle.seats.proofs.Requests.{declare-numbers}
 use Rattle.seats.proofs.deciding.decide_declare.Statement.{statement}
 use Rattle.seats.proofs.deciding.decide_declare.Tie as tie
 
-judge-declare-requires : tie.Need-judge-declare-requires
-judge-declare-requires c κs = tt
-
 enum-known-verdict : tie.Need-enum-known-verdict
 enum-known-verdict c = search needs
 
-unchanged-requires : tie.Need-unchanged-requires
-unchanged-requires c κs = tt
-
 enum-told : tie.Need-enum-told
 enum-told c = search needs
-
-offered-seat-requires : tie.Need-offered-seat-requires
-offered-seat-requires c κs = tt
-
-refusal-requires : tie.Need-refusal-requires
-refusal-requires c κs = tt
-
-unchanged-requires-2 : tie.Need-unchanged-requires-2
-unchanged-requires-2 c κs = tt
 
 returns : tie.Need-returns
 unfolding read-verdict checks offered-seat held assigned effective
@@ -50,9 +35,6 @@ returns c =
     c .unchanged2 .ensures s
     ∙ ap (λ (x : Answer). (x, s)) (c .before .refusal .ensures ∙ ap (refused 30) (o .offered-seat .ensures))
     ∙ sym (refused-by s (declare (g .a .0) (g .b .0)) (passed-first _ _ (o .before .before .before .judge-declare .ensures) told ∙ stops _ _ (place-found _ (o .offered-seat .ensures) (c .before .before .if1 .taken))))
-
-with-conflict-requires : tie.Need-with-conflict-requires
-with-conflict-requires c κs = tt
 
 returns-2 : tie.Need-returns-2
 unfolding read-verdict read-answer checks
@@ -80,14 +62,14 @@ pub decide-declare-spec : {M : Type 1} → statement M
 decide-declare-spec =
     tie.close
     (tie.spec
-    judge-declare-requires
+    (λ c κs. tt)
     enum-known-verdict
-    unchanged-requires
+    (λ c κs. tt)
     enum-told
-    offered-seat-requires
-    refusal-requires
-    unchanged-requires-2
+    (λ c κs. tt)
+    (λ c κs. tt)
+    (λ c κs. tt)
     returns
-    with-conflict-requires
+    (λ c κs. tt)
     returns-2
     returns-3)

@@ -14,20 +14,11 @@ use Rattle.seats.proofs.Settling.{refused-by, passed-by}
 use Rattle.seats.proofs.deciding.decide_lift.Statement.{statement}
 use Rattle.seats.proofs.deciding.decide_lift.Tie as tie
 
-judge-lift-requires : tie.Need-judge-lift-requires
-judge-lift-requires c κs = tt
-
 enum-known-verdict : tie.Need-enum-known-verdict
 enum-known-verdict c = search needs
 
-unchanged-requires : tie.Need-unchanged-requires
-unchanged-requires c κs = tt
-
 enum-told : tie.Need-enum-told
 enum-told c = search needs
-
-without-conflict-requires : tie.Need-without-conflict-requires
-without-conflict-requires c κs = tt
 
 returns : tie.Need-returns
 unfolding read-verdict read-answer checks lift-checks
@@ -51,10 +42,10 @@ pub decide-lift-spec : {M : Type 1} → statement M
 decide-lift-spec =
     tie.close
     (tie.spec
-    judge-lift-requires
+    (λ c κs. tt)
     enum-known-verdict
-    unchanged-requires
+    (λ c κs. tt)
     enum-told
-    without-conflict-requires
+    (λ c κs. tt)
     returns
     returns-2)

@@ -19,14 +19,8 @@ use Rattle.seats.proofs.Requests.{unassign-late, seat-numbers}
 use Rattle.seats.proofs.deciding.decide_unassign.Statement.{statement}
 use Rattle.seats.proofs.deciding.decide_unassign.Tie as tie
 
-judge-seat-requires : tie.Need-judge-seat-requires
-judge-seat-requires c κs = tt
-
 enum-known-verdict : tie.Need-enum-known-verdict
 enum-known-verdict c = search needs
-
-unchanged-requires : tie.Need-unchanged-requires
-unchanged-requires c κs = tt
 
 enum-told : tie.Need-enum-told
 enum-told c = search needs
@@ -36,18 +30,6 @@ cast-seat c = search needs
 
 cast-r : tie.Need-cast-r
 cast-r c = search needs
-
-roles-at-requires : tie.Need-roles-at-requires
-roles-at-requires c κs = tt
-
-member-requires : tie.Need-member-requires
-member-requires c κs = tt
-
-refusal-requires : tie.Need-refusal-requires
-refusal-requires c κs = tt
-
-unchanged-requires-2 : tie.Need-unchanged-requires-2
-unchanged-requires-2 c κs = tt
 
 returns : tie.Need-returns
 unfolding read-verdict present checks assigned
@@ -60,9 +42,6 @@ returns c =
     c .unchanged2 .ensures s
     ∙ ap (λ (x : Answer). (x, s)) (c .before .refusal .ensures)
     ∙ sym (refused-by s (unassign (g .a .0) (g .b .0)) (passed-first (seat-role-checks (s .graph) (g .a .0) (g .b .0)) (unassign-late s (g .a .0) (g .b .0)) j told ∙ stops _ _ (ap not (ap (member _) (sym (m .before .roles-at .ensures)) ∙ sym (m .member .ensures) ∙ not-true _ (c .before .before .if1 .taken)))))
-
-remove-requires : tie.Need-remove-requires
-remove-requires c κs = tt
 
 returns-2 : tie.Need-returns-2
 unfolding read-verdict read-answer present checks assigned
@@ -89,17 +68,17 @@ pub decide-unassign-spec : {M : Type 1} → statement M
 decide-unassign-spec =
     tie.close
     (tie.spec
-    judge-seat-requires
+    (λ c κs. tt)
     enum-known-verdict
-    unchanged-requires
+    (λ c κs. tt)
     enum-told
     cast-seat
     cast-r
-    roles-at-requires
-    member-requires
-    refusal-requires
-    unchanged-requires-2
+    (λ c κs. tt)
+    (λ c κs. tt)
+    (λ c κs. tt)
+    (λ c κs. tt)
     returns
-    remove-requires
+    (λ c κs. tt)
     returns-2
     returns-3)

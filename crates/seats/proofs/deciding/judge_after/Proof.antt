@@ -10,20 +10,11 @@ use Rattle.seats.specs.Seats.{assigned, held, pair-seat}
 use Rattle.seats.proofs.deciding.judge_after.Statement.{statement}
 use Rattle.seats.proofs.deciding.judge_after.Tie as tie
 
-judge-closed-requires : tie.Need-judge-closed-requires
-judge-closed-requires c κs = tt
-
 enum-told : tie.Need-enum-told
 enum-told c = search needs
 
 enum-told-2 : tie.Need-enum-told-2
 enum-told-2 c = search needs
-
-pair-seat-requires : tie.Need-pair-seat-requires
-pair-seat-requires c κs = tt
-
-refuse-requires : tie.Need-refuse-requires
-refuse-requires c κs = tt
 
 returns : tie.Need-returns
 unfolding pair-seat held assigned effective
@@ -49,11 +40,11 @@ pub judge-after-spec : {M : Type 1} → statement M
 judge-after-spec =
     tie.close
     (tie.spec
-    judge-closed-requires
+    (λ c κs. tt)
     enum-told
     enum-told-2
-    pair-seat-requires
-    refuse-requires
+    (λ c κs. tt)
+    (λ c κs. tt)
     returns
     returns-2
     returns-3)

@@ -15,9 +15,6 @@ use Rattle.seats.proofs.Changing.{before-checks}
 use Rattle.seats.proofs.deciding.judge_held.Statement.{statement}
 use Rattle.seats.proofs.deciding.judge_held.Tie as tie
 
-judge-role-requires : tie.Need-judge-role-requires
-judge-role-requires c κs = tt
-
 enum-told : tie.Need-enum-told
 enum-told c = search needs
 
@@ -31,12 +28,6 @@ returns c S C b =
     let s = state-of (g .roles) S C (g .seats .now) in
     let d = remove-role (g .a .0) b in
     refused-first (before-checks s d) (seat-checks s d) (c .before .before .judge-role .ensures) (c .enum-told2 .given .1)
-
-seat-with-role-requires : tie.Need-seat-with-role-requires
-seat-with-role-requires c κs = tt
-
-refuse-requires : tie.Need-refuse-requires
-refuse-requires c κs = tt
 
 returns-2 : tie.Need-returns-2
 unfolding removal-checks input-checks state-checks seat-checks present assigned
@@ -64,11 +55,11 @@ pub judge-held-spec : {M : Type 1} → statement M
 judge-held-spec =
     tie.close
     (tie.spec
-    judge-role-requires
+    (λ c κs. tt)
     enum-told
     enum-told-2
     returns
-    seat-with-role-requires
-    refuse-requires
+    (λ c κs. tt)
+    (λ c κs. tt)
     returns-2
     returns-3)

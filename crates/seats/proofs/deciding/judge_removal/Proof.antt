@@ -17,9 +17,6 @@ use Rattle.seats.proofs.deciding.judge_removal.Tie as tie
 enum-known-edit : tie.Need-enum-known-edit
 enum-known-edit c = search needs
 
-judge-held-requires : tie.Need-judge-held-requires
-judge-held-requires c κs = tt
-
 returns : tie.Need-returns
 unfolding read-change
 returns c S C = rw (c .before .before .edit .given .1) (c .judge-held .ensures S C _)
@@ -44,6 +41,6 @@ judge-removal-spec =
     tie.close
     (tie.spec
     enum-known-edit
-    judge-held-requires
+    (λ c κs. tt)
     returns
     returns-2)

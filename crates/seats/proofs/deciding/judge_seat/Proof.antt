@@ -6,17 +6,11 @@ use Rattle.graph.proofs.Judging.{stops, moves-on}
 use Rattle.seats.proofs.deciding.judge_seat.Statement.{statement}
 use Rattle.seats.proofs.deciding.judge_seat.Tie as tie
 
-refuse-requires : tie.Need-refuse-requires
-refuse-requires c κs = tt
-
 returns : tie.Need-returns
 returns c = c .refuse .ensures ∙ sym (stops _ _ (le-leb 64 _ (c .before .if1 .taken)))
-
-judge-role-requires : tie.Need-judge-role-requires
-judge-role-requires c κs = tt
 
 returns-2 : tie.Need-returns-2
 returns-2 c = c .judge-role .ensures ∙ sym (moves-on _ _ (lt-leb 64 _ (c .before .if1 .left)))
 
 pub judge-seat-spec : {M : Type 1} → statement M
-judge-seat-spec = tie.close (tie.spec refuse-requires returns judge-role-requires returns-2)
+judge-seat-spec = tie.close (tie.spec (λ c κs. tt) returns (λ c κs. tt) returns-2)

@@ -15,17 +15,11 @@ use Rattle.seats.proofs.Changing.{before-checks, next, settled-refused,
 use Rattle.seats.proofs.deciding.try_change.Statement.{statement}
 use Rattle.seats.proofs.deciding.try_change.Tie as tie
 
-attempt-requires : tie.Need-attempt-requires
-attempt-requires c κs = tt
-
 enum-known-before : tie.Need-enum-known-before
 enum-known-before c = search needs
 
 enum-told : tie.Need-enum-told
 enum-told c = search needs
-
-judge-after-requires : tie.Need-judge-after-requires
-judge-after-requires c κs = tt
 
 enum-known-after : tie.Need-enum-known-after
 enum-known-after c = search needs
@@ -83,10 +77,10 @@ pub try-change-spec : {M : Type 1} → statement M
 try-change-spec =
     tie.close
     (tie.spec
-    attempt-requires
+    (λ c κs. tt)
     enum-known-before
     enum-told
-    judge-after-requires
+    (λ c κs. tt)
     enum-known-after
     enum-told-2
     returns

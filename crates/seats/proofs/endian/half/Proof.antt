@@ -9,17 +9,11 @@ use Rattle.seats.proofs.endian.half.Tie as tie
 shared-slice-read-wide : tie.Need-shared-slice-read-wide
 shared-slice-read-wide c = search needs
 
-wide-requires : tie.Need-wide-requires
-wide-requires c κs = search needs
-
 add-wide : tie.Need-add-wide
 add-wide c = search needs
 
 shared-slice-read-wide-2 : tie.Need-shared-slice-read-wide-2
 shared-slice-read-wide-2 c = search needs
-
-wide-requires-2 : tie.Need-wide-requires-2
-wide-requires-2 c κs = search needs
 
 mul-result : tie.Need-mul-result
 mul-result c = search needs
@@ -39,10 +33,10 @@ half-spec =
     tie.close
     (tie.spec
     shared-slice-read-wide
-    wide-requires
+    (λ c κs. tt)
     add-wide
     shared-slice-read-wide-2
-    wide-requires-2
+    (λ c κs. tt)
     mul-result
     add-result
     returns)

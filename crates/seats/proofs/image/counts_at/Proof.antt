@@ -13,17 +13,11 @@ sub-wide c = search needs
 shared-slice-read-wide : tie.Need-shared-slice-read-wide
 shared-slice-read-wide c = search needs
 
-wide-requires : tie.Need-wide-requires
-wide-requires c κs = search needs
-
 sub-wide-2 : tie.Need-sub-wide-2
 sub-wide-2 c = search needs
 
 shared-slice-read-wide-2 : tie.Need-shared-slice-read-wide-2
 shared-slice-read-wide-2 c = search needs
-
-wide-requires-2 : tie.Need-wide-requires-2
-wide-requires-2 c κs = search needs
 
 sub-half : tie.Need-sub-half
 sub-half c = search needs
@@ -47,10 +41,10 @@ counts-at-spec =
     (tie.spec
     sub-wide
     shared-slice-read-wide
-    wide-requires
+    (λ c κs. tt)
     sub-wide-2
     shared-slice-read-wide-2
-    wide-requires-2
+    (λ c κs. tt)
     sub-half
     half-requires
     returns)

@@ -18,9 +18,6 @@ returns-3 : tie.Need-returns-3
 unfolding numbered
 returns-3 c = simp (le-leb _ _ (c .before .before .if1 .left), lt-ltb _ _ (c .before .if2 .left), lt-leb _ _ (c .if3 .taken))
 
-included-requires : tie.Need-included-requires
-included-requires c κs = search needs
-
 returns-4 : tie.Need-returns-4
 unfolding numbered
 returns-4 c =
@@ -28,4 +25,4 @@ returns-4 c =
     (c .included .ensures)
 
 pub admits-spec : {M : Type 1} → statement M
-admits-spec = tie.close (tie.spec returns returns-2 returns-3 included-requires returns-4)
+admits-spec = tie.close (tie.spec returns returns-2 returns-3 (λ c κs. tt) returns-4)

@@ -29,26 +29,11 @@ abbrev μ-loop : tie.MeasureT-loop
 tested : (top : ℕ) {s t : ℕ} {x y : Bool} → s ≡ t → x ≡ included s top → not x ≡ y → not (included t top) ≡ y
 tested top e f z = ap (λ (u : ℕ). not (included u top)) (sym e) ∙ ap not (sym f) ∙ z
 
-entry-requires : tie.Need-entry-requires Inv-loop μ-loop
-entry-requires c κs = tt
-
-ordinary-roles-requires : tie.Need-ordinary-roles-requires Inv-loop μ-loop
-ordinary-roles-requires c κs = tt
-
 loop-holds : tie.Need-loop-holds Inv-loop μ-loop
 loop-holds c = rw (c .ordinary-roles .ensures) (starts role-count _ _ (difference-lt role-count _ _ (search needs)))
 
-lowest-member-requires : tie.Need-lowest-member-requires Inv-loop μ-loop
-lowest-member-requires c κs = search needs
-
 cast-r : tie.Need-cast-r Inv-loop μ-loop
 cast-r c = search needs
-
-entry-requires-2 : tie.Need-entry-requires-2 Inv-loop μ-loop
-entry-requires-2 c κs = tt
-
-included-requires : tie.Need-included-requires Inv-loop μ-loop
-included-requires c κs = search needs
 
 returns : tie.Need-returns Inv-loop μ-loop
 unfolding effective
@@ -59,9 +44,6 @@ returns c =
     let g = drawn-from (a .roles) (a .sets .now) in
     hit (l .loop .inv) (b .before .loop-test .taken) (b .lowest-member .ensures) (tested _ (c .before .before .entry2 .ensures) (c .before .included .ensures) (c .if1 .taken))
     ∙ among-ordinary g _ ∙ ap (λ (top : ℕ). lowest role-count (λ r. ordinary g r && lacks top (g .sets) r)) (l .before .before .entry .ensures)
-
-without-lowest-requires : tie.Need-without-lowest-requires Inv-loop μ-loop
-without-lowest-requires c κs = search needs
 
 loop-less : tie.Need-loop-less Inv-loop μ-loop
 loop-less c =
@@ -89,15 +71,15 @@ lacking-role-spec =
     (tie.spec
     Inv-loop
     μ-loop
-    entry-requires
-    ordinary-roles-requires
+    (λ c κs. tt)
+    (λ c κs. tt)
     loop-holds
-    lowest-member-requires
+    (λ c κs. tt)
     cast-r
-    entry-requires-2
-    included-requires
+    (λ c κs. tt)
+    (λ c κs. tt)
     returns
-    without-lowest-requires
+    (λ c κs. tt)
     loop-less
     loop-again
     returns-2)

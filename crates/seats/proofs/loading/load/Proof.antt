@@ -26,9 +26,6 @@ placed c =
     let b = c .before .before .before in
     contents-decide _ (b .before .before .if1 .left) (far-is b) (b .counts-at .ensures .0) (c .before .if2 .left ∙ c .before .before .distance .ensures .0) (c .if3 .left)
 
-refuse-requires : tie.Need-refuse-requires
-refuse-requires c κs = search needs
-
 returns : tie.Need-returns
 returns c = refused-load _ _ 6 (too-few-bytes _ (c .before .if1 .taken)) (c .refuse .ensures .0) (c .refuse .ensures .1)
 
@@ -44,17 +41,11 @@ counts-at-requires c κs = search needs
 distance-requires : tie.Need-distance-requires
 distance-requires c κs = search needs
 
-refuse-requires-2 : tie.Need-refuse-requires-2
-refuse-requires-2 c κs = search needs
-
 returns-2 : tie.Need-returns-2
 returns-2 c =
     let b = c .before .before .before in
     let e = other-distance _ (b .before .before .if1 .left) (far-is b) (b .counts-at .ensures .0) (λ e. c .before .if2 .taken (e ∙ sym (c .before .before .distance .ensures .0))) in
     refused-load _ _ 6 e (c .refuse2 .ensures .0) (c .refuse2 .ensures .1)
-
-refuse-requires-3 : tie.Need-refuse-requires-3
-refuse-requires-3 c κs = search needs
 
 returns-3 : tie.Need-returns-3
 returns-3 c =
@@ -65,19 +56,10 @@ returns-3 c =
 read-contents-requires : tie.Need-read-contents-requires
 read-contents-requires c κs = search needs
 
-refuse-requires-4 : tie.Need-refuse-requires-4
-refuse-requires-4 c κs = search needs
-
 returns-4 : tie.Need-returns-4
 returns-4 c =
     let r = c .before .before .before in
     refused-load _ _ 7 (placed (r .before) ∙ entries-refused (r .read-contents .ensures) (not-true _ (c .before .if4 .taken))) (c .refuse4 .ensures .0) (c .refuse4 .ensures .1)
-
-is-sound-requires : tie.Need-is-sound-requires
-is-sound-requires c κs = search needs
-
-refuse-requires-5 : tie.Need-refuse-requires-5
-refuse-requires-5 c κs = search needs
 
 returns-5 : tie.Need-returns-5
 returns-5 c =
@@ -97,20 +79,20 @@ pub load-spec : {M : Type 1} → statement M
 load-spec =
     tie.close
     (tie.spec
-    refuse-requires
+    (λ c κs. tt)
     returns
     sub-quad
     quad-requires
     counts-at-requires
     distance-requires
-    refuse-requires-2
+    (λ c κs. tt)
     returns-2
-    refuse-requires-3
+    (λ c κs. tt)
     returns-3
     read-contents-requires
-    refuse-requires-4
+    (λ c κs. tt)
     returns-4
-    is-sound-requires
-    refuse-requires-5
+    (λ c κs. tt)
+    (λ c κs. tt)
     returns-5
     returns-6)

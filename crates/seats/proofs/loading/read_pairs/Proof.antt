@@ -32,9 +32,6 @@ add-higher c = search needs
 shared-slice-read-higher : tie.Need-shared-slice-read-higher Inv-loop μ-loop
 shared-slice-read-higher c = search needs
 
-admits-pair-requires : tie.Need-admits-pair-requires Inv-loop μ-loop
-admits-pair-requires c κs = search needs
-
 -- The privileges that passed the tests ascend and are below 64.
 pair-small : (c : tie.Else1 Inv-loop μ-loop) → (
     let l = c .before .before .before .before .before .before .before .args .bytes .now in
@@ -63,9 +60,6 @@ element-copy-out-union c = let (a, b) = pair-small c in omega arith
 
 only-requires : tie.Need-only-requires Inv-loop μ-loop
 only-requires c κs = pair-small (c .before) .1
-
-union-requires : tie.Need-union-requires Inv-loop μ-loop
-union-requires c κs = search needs
 
 mul-table : tie.Need-mul-table Inv-loop μ-loop
 mul-table c = let (a, b) = pair-small (c .before .before .before) in omega arith
@@ -115,14 +109,14 @@ read-pairs-spec =
     shared-slice-read-lower
     add-higher
     shared-slice-read-higher
-    admits-pair-requires
+    (λ c κs. tt)
     returns
     cast-a
     cast-b
     mul-union
     element-copy-out-union
     only-requires
-    union-requires
+    (λ c κs. tt)
     mul-table
     element-write-table
     mul-floor

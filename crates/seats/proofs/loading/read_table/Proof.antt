@@ -31,9 +31,6 @@ add-word c = search needs
 word-requires : tie.Need-word-requires Inv-loop μ-loop
 word-requires c κs = search needs
 
-admits-requires : tie.Need-admits-requires Inv-loop μ-loop
-admits-requires c κs = search needs
-
 -- The key that passed the tests is below 64.
 key-small : (c : tie.Else1 Inv-loop μ-loop) → getD (c .before .before .before .before .before .before .before .args .bytes .now) (c .before .before .before .before .before .loop .place) 0 < 64
 key-small c = key-lt _ _ _ _ _ (sym (c .before .admits .ensures) ∙ not-false _ (c .if1 .left))
@@ -50,9 +47,6 @@ cast-k c = let k = key-small c in omega arith
 
 only-requires : tie.Need-only-requires Inv-loop μ-loop
 only-requires c κs = key-small c
-
-union-requires : tie.Need-union-requires Inv-loop μ-loop
-union-requires c κs = search needs
 
 mul-table : tie.Need-mul-table Inv-loop μ-loop
 mul-table c = let k = key-small (c .before .before) in omega arith
@@ -95,11 +89,11 @@ read-table-spec =
     shared-slice-read-key
     add-word
     word-requires
-    admits-requires
+    (λ c κs. tt)
     returns
     cast-k
     only-requires
-    union-requires
+    (λ c κs. tt)
     mul-table
     element-write-table
     add-floor

@@ -6,9 +6,6 @@ use Rattle.seats.proofs.TapePlaces.{part-is, part-none}
 use Rattle.seats.proofs.reader.record_at.Statement.{statement}
 use Rattle.seats.proofs.reader.record_at.Tie as tie
 
-record-end-requires : tie.Need-record-end-requires
-record-end-requires c κs = search needs
-
 sub-result : tie.Need-sub-result
 sub-result c = search needs
 
@@ -34,7 +31,7 @@ pub record-at-spec : {M : Type 1} → statement M
 record-at-spec =
     tie.close
     (tie.spec
-    record-end-requires
+    (λ c κs. tt)
     sub-result
     part-result-start
     part-result-end

@@ -42,9 +42,6 @@ word-requires-2 c κs = search needs
 word-requires-3 : tie.Need-word-requires-3
 word-requires-3 c κs = search needs
 
-named-requires : tie.Need-named-requires
-named-requires c κs = search needs
-
 returns-3 : tie.Need-returns-3
 unfolding decode
 returns-3 c =
@@ -68,5 +65,5 @@ decode-spec =
     word-requires
     word-requires-2
     word-requires-3
-    named-requires
+    (λ c κs. tt)
     returns-3)

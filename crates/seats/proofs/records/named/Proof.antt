@@ -9,48 +9,6 @@ use Rattle.seats.proofs.Decoding.{at-kind, unknown-kind}
 use Rattle.seats.proofs.records.named.Statement.{statement}
 use Rattle.seats.proofs.records.named.Tie as tie
 
-unused-requires : tie.Need-unused-requires
-unused-requires c κs = search needs
-
-decoded-change-requires : tie.Need-decoded-change-requires
-decoded-change-requires c κs = search needs
-
-unused-requires-2 : tie.Need-unused-requires-2
-unused-requires-2 c κs = search needs
-
-decoded-change-requires-2 : tie.Need-decoded-change-requires-2
-decoded-change-requires-2 c κs = search needs
-
-decoded-change-requires-3 : tie.Need-decoded-change-requires-3
-decoded-change-requires-3 c κs = search needs
-
-decoded-change-requires-4 : tie.Need-decoded-change-requires-4
-decoded-change-requires-4 c κs = search needs
-
-decoded-change-requires-5 : tie.Need-decoded-change-requires-5
-decoded-change-requires-5 c κs = search needs
-
-decoded-change-requires-6 : tie.Need-decoded-change-requires-6
-decoded-change-requires-6 c κs = search needs
-
-decoded-change-requires-7 : tie.Need-decoded-change-requires-7
-decoded-change-requires-7 c κs = search needs
-
-decoded-request-requires : tie.Need-decoded-request-requires
-decoded-request-requires c κs = search needs
-
-decoded-request-requires-2 : tie.Need-decoded-request-requires-2
-decoded-request-requires-2 c κs = search needs
-
-decoded-request-requires-3 : tie.Need-decoded-request-requires-3
-decoded-request-requires-3 c κs = search needs
-
-decoded-request-requires-4 : tie.Need-decoded-request-requires-4
-decoded-request-requires-4 c κs = search needs
-
-decoded-request-requires-5 : tie.Need-decoded-request-requires-5
-decoded-request-requires-5 c κs = search needs
-
 returns : tie.Need-returns
 unfolding kinds unused all-empty read-change
 returns c = rw (c .before .match .keys1) (c .decoded-change .ensures ∙ at-kind _ 0 3 _ refl)
@@ -111,20 +69,20 @@ pub named-spec : {M : Type 1} → statement M
 named-spec =
     tie.close
     (tie.spec
-    unused-requires
-    decoded-change-requires
-    unused-requires-2
-    decoded-change-requires-2
-    decoded-change-requires-3
-    decoded-change-requires-4
-    decoded-change-requires-5
-    decoded-change-requires-6
-    decoded-change-requires-7
-    decoded-request-requires
-    decoded-request-requires-2
-    decoded-request-requires-3
-    decoded-request-requires-4
-    decoded-request-requires-5
+    (λ c κs. tt)
+    (λ c κs. tt)
+    (λ c κs. tt)
+    (λ c κs. tt)
+    (λ c κs. tt)
+    (λ c κs. tt)
+    (λ c κs. tt)
+    (λ c κs. tt)
+    (λ c κs. tt)
+    (λ c κs. tt)
+    (λ c κs. tt)
+    (λ c κs. tt)
+    (λ c κs. tt)
+    (λ c κs. tt)
     returns
     returns-2
     returns-3

@@ -12,9 +12,6 @@ quad-requires c κs = search needs
 shared-slice-read-wide : tie.Need-shared-slice-read-wide
 shared-slice-read-wide c = search needs
 
-wide-requires : tie.Need-wide-requires
-wide-requires c κs = search needs
-
 mul-result : tie.Need-mul-result
 mul-result c = search needs
 
@@ -27,4 +24,4 @@ returns c = omega (arith, five-bytes 3 (c .before .before .before .before .args 
 pub spare-spec : {M : Type 1} → statement M
 spare-spec =
     tie.close
-    (tie.spec quad-requires shared-slice-read-wide wide-requires mul-result add-result returns)
+    (tie.spec quad-requires shared-slice-read-wide (λ c κs. tt) mul-result add-result returns)

@@ -7,9 +7,6 @@ use Rattle.sets.specs.Sets.{digit, member, size}
 use Rattle.seats.proofs.saving.counted.Statement.{statement}
 use Rattle.seats.proofs.saving.counted.Tie as tie
 
-size-requires : tie.Need-size-requires
-size-requires c κs = tt
-
 cast-result : tie.Need-cast-result
 cast-result c = search needs
 
@@ -24,4 +21,4 @@ returns-2 : tie.Need-returns-2
 returns-2 c = search needs
 
 pub counted-spec : {M : Type 1} → statement M
-counted-spec = tie.close (tie.spec size-requires cast-result add-result returns returns-2)
+counted-spec = tie.close (tie.spec (λ c κs. tt) cast-result add-result returns returns-2)

@@ -26,17 +26,8 @@ loop-holds : tie.Need-loop-holds Inv-loop μ-loop
 unfolding collect
 loop-holds c = (search needs, refl)
 
-roles-at-requires : tie.Need-roles-at-requires Inv-loop μ-loop
-roles-at-requires c κs = search needs
-
 only-requires : tie.Need-only-requires Inv-loop μ-loop
 only-requires c κs = search needs
-
-when-requires : tie.Need-when-requires Inv-loop μ-loop
-when-requires c κs = search needs
-
-union-requires : tie.Need-union-requires Inv-loop μ-loop
-union-requires c κs = search needs
 
 add-i : tie.Need-add-i Inv-loop μ-loop
 add-i c = search needs
@@ -63,10 +54,10 @@ occupied-spec =
     Inv-loop
     μ-loop
     loop-holds
-    roles-at-requires
+    (λ c κs. tt)
     only-requires
-    when-requires
-    union-requires
+    (λ c κs. tt)
+    (λ c κs. tt)
     add-i
     loop-less
     loop-again

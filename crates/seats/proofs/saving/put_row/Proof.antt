@@ -20,9 +20,6 @@ abbrev μ-loop : tie.MeasureT-loop
 loop-holds : tie.Need-loop-holds Inv-loop μ-loop
 loop-holds c = (search needs, unwritten-all _ _ _)
 
-lowest-member-requires : tie.Need-lowest-member-requires Inv-loop μ-loop
-lowest-member-requires c κs = search needs
-
 cast-higher : tie.Need-cast-higher Inv-loop μ-loop
 cast-higher c = search needs
 
@@ -31,9 +28,6 @@ put-entry-requires c κs =
     let b = c .before in
     let s = b .before .before .before .before in
     member-room privilege-count 1 (λ n. record { key = s .args .lower; value = n }) (b .before .before .loop .inv .0) (b .before .loop-test .taken) (b .lowest-member .ensures) (b .before .before .loop .inv .1) (s .pre)
-
-without-lowest-requires : tie.Need-without-lowest-requires Inv-loop μ-loop
-without-lowest-requires c κs = search needs
 
 loop-less : tie.Need-loop-less Inv-loop μ-loop
 loop-less c =
@@ -61,10 +55,10 @@ put-row-spec =
     Inv-loop
     μ-loop
     loop-holds
-    lowest-member-requires
+    (λ c κs. tt)
     cast-higher
     put-entry-requires
-    without-lowest-requires
+    (λ c κs. tt)
     loop-less
     loop-again
     same-length

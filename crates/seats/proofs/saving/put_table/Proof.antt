@@ -21,9 +21,6 @@ abbrev μ-loop : tie.MeasureT-loop
 loop-holds : tie.Need-loop-holds Inv-loop μ-loop
 loop-holds c = (search needs, unwritten-all _ _ _)
 
-lowest-member-requires : tie.Need-lowest-member-requires Inv-loop μ-loop
-lowest-member-requires c κs = search needs
-
 key-lt : (c : tie.After-lowest-member Inv-loop μ-loop) → c .lowest-member .result < 64
 key-lt c = rw (c .lowest-member .ensures) (lowest-below 64 _ (c .before .before .loop .inv .0) (c .before .loop-test .taken))
 
@@ -33,17 +30,11 @@ cast-i c = search needs
 cast-put-entry : tie.Need-cast-put-entry Inv-loop μ-loop
 cast-put-entry c = let l = key-lt (c .before) in search needs
 
-roles-at-requires : tie.Need-roles-at-requires Inv-loop μ-loop
-roles-at-requires c κs = search needs
-
 put-entry-requires : tie.Need-put-entry-requires Inv-loop μ-loop
 put-entry-requires c κs =
     let b = c .before .before in
     let s = b .before .before .before .before .before in
     member-room 64 8 (valued (at (s .args .table .now))) (b .before .before .loop .inv .0) (b .before .loop-test .taken) (b .lowest-member .ensures) (b .before .before .loop .inv .1) (s .pre)
-
-without-lowest-requires : tie.Need-without-lowest-requires Inv-loop μ-loop
-without-lowest-requires c κs = search needs
 
 loop-less : tie.Need-loop-less Inv-loop μ-loop
 loop-less c =
@@ -72,12 +63,12 @@ put-table-spec =
     Inv-loop
     μ-loop
     loop-holds
-    lowest-member-requires
+    (λ c κs. tt)
     cast-i
     cast-put-entry
-    roles-at-requires
+    (λ c κs. tt)
     put-entry-requires
-    without-lowest-requires
+    (λ c κs. tt)
     loop-less
     loop-again
     same-length

@@ -68,15 +68,6 @@ only-requires c κs = search needs
 sub-union : tie.Need-sub-union
 sub-union c = let e = c .only .ensures ∙ alone _ in let p = pow-pos (c .before .before .args .lower) in omega arith
 
-union-requires : tie.Need-union-requires
-union-requires c κs = search needs
-
-roles-at-requires : tie.Need-roles-at-requires
-roles-at-requires c κs = search needs
-
-difference-requires : tie.Need-difference-requires
-difference-requires c κs = search needs
-
 returns : tie.Need-returns
 unfolding sets-in
 returns c =
@@ -91,7 +82,7 @@ row-spec =
     (tie.spec
     only-requires
     sub-union
-    union-requires
-    roles-at-requires
-    difference-requires
+    (λ c κs. tt)
+    (λ c κs. tt)
+    (λ c κs. tt)
     returns)

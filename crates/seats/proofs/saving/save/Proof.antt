@@ -98,26 +98,11 @@ conflicts-written c = unwritten-next (conflicts-part (conflicts-from c)) _ (role
 seats-written : (c : tie.After-put-table2) → Left (seats-from c) (c .put-table2 .last .0) (c .put-table2 .result) (trailer-part (seats-from c))
 seats-written c = unwritten-next (seats-part (seats-from c)) _ (conflicts-written (c .before .before .before .before)) (c .put-table2 .ensures)
 
-ordinary-roles-requires : tie.Need-ordinary-roles-requires
-ordinary-roles-requires c κs = search needs
-
-occupied-requires : tie.Need-occupied-requires
-occupied-requires c κs = search needs
-
-size-requires : tie.Need-size-requires
-size-requires c κs = search needs
-
 cast-r : tie.Need-cast-r
 cast-r c = let a = size-bound 64 (c .before .before .ordinary-roles .result) in let e = c .size .ensures in omega arith
 
-size-requires-2 : tie.Need-size-requires-2
-size-requires-2 c κs = search needs
-
 cast-s : tie.Need-cast-s
 cast-s c = let a = size-bound 64 (c .before .before .occupied .result) in let e = c .size2 .ensures in omega arith
-
-count-conflicts-requires : tie.Need-count-conflicts-requires
-count-conflicts-requires c κs = search needs
 
 few : (c : tie.After-count-conflicts) → (c .before .before .size .result < 256) × (c .before .size2 .result < 256) × (c .count-conflicts .result < 65536)
 few c =
@@ -131,14 +116,8 @@ few c =
 distance-requires : tie.Need-distance-requires
 distance-requires c κs = few c
 
-too-short-requires : tie.Need-too-short-requires
-too-short-requires c κs = search needs
-
 returns : tie.Need-returns
 returns c = rw (c .too-short .ensures) (saves-nothing (counted (c .before .before)) _ (c .before .if1 .taken))
-
-roles-at-requires : tie.Need-roles-at-requires
-roles-at-requires c κs = search needs
 
 put-number-requires : tie.Need-put-number-requires
 put-number-requires c κs =
@@ -183,17 +162,17 @@ pub save-spec : {M : Type 1} → statement M
 save-spec =
     tie.close
     (tie.spec
-    ordinary-roles-requires
-    occupied-requires
-    size-requires
+    (λ c κs. tt)
+    (λ c κs. tt)
+    (λ c κs. tt)
     cast-r
-    size-requires-2
+    (λ c κs. tt)
     cast-s
-    count-conflicts-requires
+    (λ c κs. tt)
     distance-requires
-    too-short-requires
+    (λ c κs. tt)
     returns
-    roles-at-requires
+    (λ c κs. tt)
     put-number-requires
     put-table-requires
     put-conflicts-requires

@@ -32,15 +32,6 @@ loop-holds c = scanned-none _ seat-count
 cast-roles-at : tie.Need-cast-roles-at Inv-loop μ-loop
 cast-roles-at c = search needs
 
-roles-at-requires : tie.Need-roles-at-requires Inv-loop μ-loop
-roles-at-requires c κs = tt
-
-union-at-requires : tie.Need-union-at-requires Inv-loop μ-loop
-union-at-requires c κs = tt
-
-holds-both-requires : tie.Need-holds-both-requires Inv-loop μ-loop
-holds-both-requires c κs = tt
-
 returns : tie.Need-returns Inv-loop μ-loop
 unfolding offered-seat held assigned effective
 returns c =
@@ -78,9 +69,9 @@ offered-seat-spec =
     μ-loop
     loop-holds
     cast-roles-at
-    roles-at-requires
-    union-at-requires
-    holds-both-requires
+    (λ c κs. tt)
+    (λ c κs. tt)
+    (λ c κs. tt)
     returns
     add-i
     loop-less

@@ -10,9 +10,6 @@ use Rattle.seats.proofs.Requests.{joint-none}
 use Rattle.seats.proofs.searches.pair_seat.Statement.{statement}
 use Rattle.seats.proofs.searches.pair_seat.Tie as tie
 
-pair-seat-with-requires : tie.Need-pair-seat-with-requires
-pair-seat-with-requires c κs = tt
-
 returns : tie.Need-returns
 unfolding pair-seat held assigned effective
 returns c =
@@ -21,4 +18,4 @@ returns c =
     ∙ lowest-cong seat-count _ _ (λ i h. ap (holds-pair (sets-in (g .conflicts .now))) (joint-none (sets-in (g .sets .now)) (g .seats .now) 64 i))
 
 pub pair-seat-spec : {M : Type 1} → statement M
-pair-seat-spec = tie.close (tie.spec pair-seat-with-requires returns)
+pair-seat-spec = tie.close (tie.spec (λ c κs. tt) returns)

@@ -23,15 +23,6 @@ cast-i c = search needs
 cast-insert : tie.Need-cast-insert
 cast-insert c = search needs
 
-insert-requires : tie.Need-insert-requires
-insert-requires c κs = tt
-
-when-requires : tie.Need-when-requires
-when-requires c κs = tt
-
-pair-seat-with-requires : tie.Need-pair-seat-with-requires
-pair-seat-with-requires c κs = tt
-
 returns : tie.Need-returns
 unfolding pair-seat held assigned effective
 returns c =
@@ -44,4 +35,4 @@ returns c =
 pub pair-seat-after-spec : {M : Type 1} → statement M
 pair-seat-after-spec =
     tie.close
-    (tie.spec cast-i cast-insert insert-requires when-requires pair-seat-with-requires returns)
+    (tie.spec cast-i cast-insert (λ c κs. tt) (λ c κs. tt) (λ c κs. tt) returns)

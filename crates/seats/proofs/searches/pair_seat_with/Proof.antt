@@ -33,21 +33,6 @@ loop-holds c = scanned-none _ seat-count
 cast-n : tie.Need-cast-n Inv-loop μ-loop
 cast-n c = search needs
 
-roles-at-requires : tie.Need-roles-at-requires Inv-loop μ-loop
-roles-at-requires c κs = tt
-
-when-requires : tie.Need-when-requires Inv-loop μ-loop
-when-requires c κs = tt
-
-union-requires : tie.Need-union-requires Inv-loop μ-loop
-union-requires c κs = tt
-
-union-at-requires : tie.Need-union-at-requires Inv-loop μ-loop
-union-at-requires c κs = tt
-
-holds-pair-requires : tie.Need-holds-pair-requires Inv-loop μ-loop
-holds-pair-requires c κs = tt
-
 -- The roles of the turn's seat, with those added.
 owned : (c : tie.After-union Inv-loop μ-loop) →
     let t = c .before .before .before in
@@ -90,11 +75,11 @@ pair-seat-with-spec =
     μ-loop
     loop-holds
     cast-n
-    roles-at-requires
-    when-requires
-    union-requires
-    union-at-requires
-    holds-pair-requires
+    (λ c κs. tt)
+    (λ c κs. tt)
+    (λ c κs. tt)
+    (λ c κs. tt)
+    (λ c κs. tt)
     returns
     add-i
     loop-less

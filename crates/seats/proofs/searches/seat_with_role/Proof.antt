@@ -31,12 +31,6 @@ loop-holds c = scanned-none _ seat-count
 cast-roles-at : tie.Need-cast-roles-at Inv-loop μ-loop
 cast-roles-at c = search needs
 
-roles-at-requires : tie.Need-roles-at-requires Inv-loop μ-loop
-roles-at-requires c κs = tt
-
-member-requires : tie.Need-member-requires Inv-loop μ-loop
-member-requires c κs = tt
-
 returns : tie.Need-returns Inv-loop μ-loop
 returns c =
     let t = c .before .before .before in
@@ -65,8 +59,8 @@ seat-with-role-spec =
     cast-r
     loop-holds
     cast-roles-at
-    roles-at-requires
-    member-requires
+    (λ c κs. tt)
+    (λ c κs. tt)
     returns
     add-i
     loop-less

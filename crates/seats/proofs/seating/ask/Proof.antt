@@ -13,27 +13,15 @@ use Rattle.seats.proofs.AskMeaning.{steps-ask}
 use Rattle.seats.proofs.seating.ask.Statement.{statement}
 use Rattle.seats.proofs.seating.ask.Tie as tie
 
-refusal-requires : tie.Need-refusal-requires
-refusal-requires c κs = tt
-
 returns : tie.Need-returns
 unfolding perform checks verdict settle judged settling.settle
 returns c R C =
     c .refusal .ensures ∙ sym (steps-ask _ _ _ (search needs) ∙ rw (le-leb 64 _ (c .before .if1 .taken)))
 
-refusal-requires-2 : tie.Need-refusal-requires-2
-refusal-requires-2 c κs = tt
-
 returns-2 : tie.Need-returns-2
 unfolding perform checks verdict settle judged settling.settle
 returns-2 c R C =
     c .refusal2 .ensures ∙ sym (steps-ask _ _ _ (search needs) ∙ rw (lt-leb 64 _ (c .before .before .before .if1 .left), le-leb 64 _ (c .before .if2 .taken)))
-
-held-by-requires : tie.Need-held-by-requires
-held-by-requires c κs = tt
-
-member-requires : tie.Need-member-requires
-member-requires c κs = tt
 
 returns-3 : tie.Need-returns-3
 unfolding perform checks verdict settle judged settling.settle reply may-use read-answer
@@ -44,4 +32,4 @@ returns-3 c R C =
 pub ask-spec : {M : Type 1} → statement M
 ask-spec =
     tie.close
-    (tie.spec refusal-requires returns refusal-requires-2 returns-2 held-by-requires member-requires returns-3)
+    (tie.spec (λ c κs. tt) returns (λ c κs. tt) returns-2 (λ c κs. tt) (λ c κs. tt) returns-3)

@@ -38,12 +38,6 @@ add-t15 c = search needs
 shared-slice-read-t17 : tie.Need-shared-slice-read-t17 Inv-loop μ-loop
 shared-slice-read-t17 c = search needs
 
-ask-requires : tie.Need-ask-requires Inv-loop μ-loop
-ask-requires c κs = tt
-
-yes-requires : tie.Need-yes-requires Inv-loop μ-loop
-yes-requires c κs = tt
-
 add-count : tie.Need-add-count Inv-loop μ-loop
 add-count c =
     let l = c .before .before .before .before .before .loop .inv .most in
@@ -76,8 +70,8 @@ count-yes-spec =
     mul-t14
     add-t15
     shared-slice-read-t17
-    ask-requires
-    yes-requires
+    (λ c κs. tt)
+    (λ c κs. tt)
     add-count
     add-i
     loop-less

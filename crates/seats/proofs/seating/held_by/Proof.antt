@@ -10,12 +10,6 @@ use Rattle.seats.specs.Seats.{assigned, held}
 use Rattle.seats.proofs.seating.held_by.Statement.{statement}
 use Rattle.seats.proofs.seating.held_by.Tie as tie
 
-roles-of-requires : tie.Need-roles-of-requires
-roles-of-requires c κs = tt
-
-union-at-requires : tie.Need-union-at-requires
-union-at-requires c κs = tt
-
 returns : tie.Need-returns
 unfolding held assigned effective
 returns c R C =
@@ -23,4 +17,4 @@ returns c R C =
     ∙ ap (λ (roles : ℕ). gather role-count (λ r. member r roles) (at (sets-in (c .before .before .before .before .args .sets .now)))) (c .before .roles-of .ensures)
 
 pub held-by-spec : {M : Type 1} → statement M
-held-by-spec = tie.close (tie.spec roles-of-requires union-at-requires returns)
+held-by-spec = tie.close (tie.spec (λ c κs. tt) (λ c κs. tt) returns)

@@ -8,17 +8,11 @@ use Rattle.seats.specs.Reading.{state-of, read-call, read-decoded}
 use Rattle.seats.proofs.stepping.take.Statement.{statement}
 use Rattle.seats.proofs.stepping.take.Tie as tie
 
-decode-requires : tie.Need-decode-requires
-decode-requires c κs = tt
-
 enum-known-decoded : tie.Need-enum-known-decoded
 enum-known-decoded c = search needs
 
 enum-told : tie.Need-enum-told
 enum-told c = search needs
-
-refusal-requires : tie.Need-refusal-requires
-refusal-requires c κs = tt
 
 returns : tie.Need-returns
 unfolding step perform-decoded read-decoded
@@ -31,14 +25,8 @@ returns c =
 enum-known-call : tie.Need-enum-known-call
 enum-known-call c = search needs
 
-take-change-requires : tie.Need-take-change-requires
-take-change-requires c κs = tt
-
 enum-known-call-2 : tie.Need-enum-known-call-2
 enum-known-call-2 c = search needs
-
-take-request-requires : tie.Need-take-request-requires
-take-request-requires c κs = tt
 
 returns-2 : tie.Need-returns-2
 unfolding step perform-decoded read-decoded read-call
@@ -64,14 +52,14 @@ pub take-spec : {M : Type 1} → statement M
 take-spec =
     tie.close
     (tie.spec
-    decode-requires
+    (λ c κs. tt)
     enum-known-decoded
     enum-told
-    refusal-requires
+    (λ c κs. tt)
     returns
     enum-known-call
-    take-change-requires
+    (λ c κs. tt)
     enum-known-call-2
-    take-request-requires
+    (λ c κs. tt)
     returns-2
     returns-3)

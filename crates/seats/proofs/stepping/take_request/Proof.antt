@@ -12,23 +12,14 @@ use Rattle.seats.specs.Reading.{state-of, read-answer, stored}
 use Rattle.seats.proofs.stepping.take_request.Statement.{statement}
 use Rattle.seats.proofs.stepping.take_request.Tie as tie
 
-decide-requires : tie.Need-decide-requires
-decide-requires c κs = tt
-
 enum-told : tie.Need-enum-told
 enum-told c = search needs
 
 enum-known-stored : tie.Need-enum-known-stored
 enum-known-stored c = search needs
 
-store-requires : tie.Need-store-requires
-store-requires c κs = tt
-
 enum-known-stored-2 : tie.Need-enum-known-stored-2
 enum-known-stored-2 c = search needs
-
-store-roles-requires : tie.Need-store-roles-requires
-store-roles-requires c κs = tt
 
 returns : tie.Need-returns
 unfolding stored
@@ -60,12 +51,12 @@ pub take-request-spec : {M : Type 1} → statement M
 take-request-spec =
     tie.close
     (tie.spec
-    decide-requires
+    (λ c κs. tt)
     enum-told
     enum-known-stored
-    store-requires
+    (λ c κs. tt)
     enum-known-stored-2
-    store-roles-requires
+    (λ c κs. tt)
     returns
     returns-2
     returns-3)

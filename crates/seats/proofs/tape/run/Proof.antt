@@ -20,12 +20,6 @@ abbrev μ-loop : tie.MeasureT-loop
 loop-holds : tie.Need-loop-holds Inv-loop μ-loop
 loop-holds c = left-start _ _ _ _ (c .before .before .pre .0)
 
-is-end-requires : tie.Need-is-end-requires Inv-loop μ-loop
-is-end-requires c κs = search needs
-
-turn-requires : tie.Need-turn-requires Inv-loop μ-loop
-turn-requires c κs = search needs
-
 -- In a turn, the place lies before the end of the part.
 before : (c : tie.Then1 Inv-loop μ-loop) → c .before .before .loop .at < length (c .before .before .before .before .before .args .part .now)
 before c = before-end (c .before .before .before .before .before .args .part .now) (c .before .before .loop .at) (c .before .is-end .ensures) (c .if1 .taken)
@@ -66,8 +60,8 @@ run-spec =
     Inv-loop
     μ-loop
     loop-holds
-    is-end-requires
-    turn-requires
+    (λ c κs. tt)
+    (λ c κs. tt)
     add-index
     put-line-requires
     loop-less

@@ -22,18 +22,6 @@ widths a =
     let n = a .before .before .wide in
     (width-word (s .args .index) (s .fits .index .fits), width-byte (n .result) (n .ensures .1), width-byte (a .wide2 .result) (a .wide2 .ensures .1))
 
-number-of-requires : tie.Need-number-of-requires
-number-of-requires c κs = search needs
-
-wide-requires : tie.Need-wide-requires
-wide-requires c κs = search needs
-
-place-of-requires : tie.Need-place-of-requires
-place-of-requires c κs = search needs
-
-wide-requires-2 : tie.Need-wide-requires-2
-wide-requires-2 c κs = search needs
-
 put-digits-requires : tie.Need-put-digits-requires
 put-digits-requires c κs = let (x, y, z) = widths (c .before) in omega arith
 
@@ -62,10 +50,10 @@ pub put-line-spec : {M : Type 1} → statement M
 put-line-spec =
     tie.close
     (tie.spec
-    number-of-requires
-    wide-requires
-    place-of-requires
-    wide-requires-2
+    (λ c κs. tt)
+    (λ c κs. tt)
+    (λ c κs. tt)
+    (λ c κs. tt)
     put-digits-requires
     tail-requires
     same-length

@@ -9,20 +9,11 @@ use Rattle.seats.proofs.Lines.{end-joined, line-filled, line-unfilled}
 use Rattle.seats.proofs.text.write_end.Statement.{statement}
 use Rattle.seats.proofs.text.write_end.Tie as tie
 
-digit-count-requires : tie.Need-digit-count-requires
-digit-count-requires c κs = search needs
-
-digit-count-requires-2 : tie.Need-digit-count-requires-2
-digit-count-requires-2 c κs = search needs
-
 add-if1 : tie.Need-add-if1
 add-if1 c = search needs
 
 add-if1-2 : tie.Need-add-if1-2
 add-if1-2 c = search needs
-
-too-short-requires : tie.Need-too-short-requires
-too-short-requires c κs = search needs
 
 returns : tie.Need-returns
 returns c =
@@ -58,11 +49,11 @@ pub write-end-spec : {M : Type 1} → statement M
 write-end-spec =
     tie.close
     (tie.spec
-    digit-count-requires
-    digit-count-requires-2
+    (λ c κs. tt)
+    (λ c κs. tt)
     add-if1
     add-if1-2
-    too-short-requires
+    (λ c κs. tt)
     returns
     put-byte-requires
     put-byte-requires-2
