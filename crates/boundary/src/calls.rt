@@ -5,8 +5,8 @@ ghost use lib.ListN.{length};
 ghost use Rattle.graph.specs.Refusing.{verdict};
 ghost use Rattle.graph.specs.Reading.{read-change};
 ghost use Rattle.seats.specs.Calls.{change, accepted, checks, after, settle, perform};
-ghost use Rattle.seats.specs.Reading.{state-of, read-answer, read-request, read-decision};
-ghost use Rattle.boundary.specs.Block.{block-length, table-at, state-in};
+ghost use Rattle.seats.specs.Reading.{state-of, read-answer, read-request, read-decision, no-sets, read-changed};
+ghost use Rattle.boundary.specs.Block.{conflicts-word, seats-word, block-length, table-at, state-in};
 ghost use Rattle.boundary.specs.Keeper.{given, fresh-block, call-block};
 use crate::block::CONFLICTS;
 use crate::block::SEATS;
@@ -21,12 +21,12 @@ use crate::codes::refusal_code;
 use graph::Change;
 use seats::Answer;
 use seats::Call;
+use seats::Changed;
 use seats::Decision;
 use seats::Decoded;
 use seats::Request;
 use seats::State;
 use seats::Stored;
-use seats::Taken;
 use seats::deciding;
 use seats::records;
 
@@ -85,15 +85,15 @@ fn take_request(block: &mut [u64], request: Request) -> u32
     }
 }
 
-// What a change comes to, decided on parts of the block; where it is accepted, the sets after it go into `next`.
-fn changed(block: &[u64], edit: Change, next: &mut [u64; 64]) -> Taken
+// What a change comes to, decided on parts of the block.
+fn changed(block: &[u64], edit: Change) -> Changed
     requires { ⌜ block-length ≤ length (now block) ⌝ }
-    ensures { λ r. let W = now (block .entry) in let C = table-at W 65 in let A = table-at W 129 in let s = state-in W in let c = change (read-change edit) in let h = after s c in ⌜ (read-answer (r .answer), state-of (r .roles) (now (next .exit)) C A) ≡ settle (verdict (checks s c h)) accepted (state-of (s .graph .roles) (now (next .entry)) C A) h ⌝ }
+    ensures { λ r. let W = now (block .entry) in let C = table-at W conflicts-word in let A = table-at W seats-word in let s = state-in W in let c = change (read-change edit) in let h = after s c in ⌜ read-changed r C A ≡ settle (verdict (checks s c h)) accepted (state-of (s .graph .roles) no-sets C A) h ⌝ }
 {
     let sets = &block[SETS..CONFLICTS];
     let conflicts = &block[CONFLICTS..SEATS];
     let seats = &block[SEATS..WORDS];
-    deciding::decide_change(block[0], sets, conflicts, seats, edit, next)
+    deciding::decide_change(block[0], sets, conflicts, seats, edit)
 }
 
 // Kinds 1 to 7, which change the roles and the sets alone; the block is written where the change is accepted.
@@ -101,13 +101,13 @@ fn take_change(block: &mut [u64], edit: Change) -> u32
     requires { ⌜ block-length ≤ length (now block) ⌝ }
     ensures { λ r. ⌜ (r, now (block .exit)) ≡ given (now (block .entry)) (perform (state-in (now (block .entry))) (change (read-change edit))) ⌝ }
 {
-    let mut next = [0u64; 64];
-    let taken = changed(block, edit, &mut next);
-    let answer = taken.answer;
+    let next = changed(block, edit);
+    let answer = next.answer;
     match answer {
         Answer::Accepted => {
-            block[0] = taken.roles;
-            put_table(block, SETS, &next);
+            let sets = next.sets;
+            block[0] = next.roles;
+            put_table(block, SETS, &sets);
             code(answer)
         }
         _ => code(answer),

@@ -1,7 +1,9 @@
 -- How the code's values are read as the paper's: states, calls, answers, and what filling a buffer answers.
 use mathlib.Core.List.{List}
 use Prim.Native.Nat.{ℕ}
-use lib.ListN.{set}
+use lib.ListN.{set, replicate}
+use Rattle.sets.specs.Sets.{empty}
+use Rattle.graph.specs.Graph.{role-count}
 use Rattle.graph.specs.Reading.{read-set, graph-of, read-change}
 use Rattle.seats.specs.Seats.{State}
 use Rattle.seats.specs.Calls.{Call, change, declare, lift, assign, unassign, ask, Answer, accepted, answered, refused, with-conflicts, with-seats}
@@ -20,6 +22,7 @@ use Rattle.seats.specs.declared.Answer.the-variants as answers
 use Rattle.seats.specs.declared.Stored as stored-enum
 use Rattle.seats.specs.declared.Stored.the-variants as storings
 use Rattle.seats.specs.declared.Decision as decision-struct
+use Rattle.seats.specs.declared.Changed as changed-struct
 use Rattle.seats.specs.declared.Counts as counts-struct
 use Rattle.seats.specs.declared.Fed as fed-struct
 use Rattle.seats.specs.declared.Filled as filled-enum
@@ -75,6 +78,14 @@ stored s (storings.RolesOf e) = with-seats s (set (s .seats) (e .seat) (e .roles
 -- What a request comes to: its answer, and the state after it.
 abbrev pub read-decision : State → decision-struct.Decision → Answer × State
 read-decision s d = (read-answer (d .answer), stored s (d .stored))
+
+-- A table without a set, where a change is refused.
+abbrev pub no-sets : List ℕ
+no-sets = replicate role-count empty
+
+-- What a change comes to: its answer, and the state after it, with these conflicts and seats.
+abbrev pub read-changed : changed-struct.Changed → List ℕ → List ℕ → Answer × State
+read-changed r conflicts seats = (read-answer (r .answer), state-of (r .roles) (r .sets) conflicts seats)
 
 -- What feeding a part of a tape gives, with the buffer that it leaves.
 abbrev pub read-fed : fed-struct.Fed → List ℕ → (Filled × List ℕ) × (ℕ × State)

@@ -6,28 +6,28 @@ ghost use Rattle.graph.specs.Editing.{remove-role};
 ghost use Rattle.graph.specs.Refusing.{verdict, input-checks, state-checks};
 ghost use Rattle.graph.specs.Reading.{drawn-from, read-verdict, read-change};
 ghost use Rattle.seats.specs.Seats.{State};
-ghost use Rattle.seats.specs.Calls.{change, declare, lift, assign, unassign, accepted, seat-role-checks, checks, after, settle, perform};
+ghost use Rattle.seats.specs.Calls.{change, declare, lift, assign, unassign, accepted, refused, seat-role-checks, checks, after, settle, perform};
 ghost use Rattle.seats.specs.Working.{removal-checks, after-checks};
-ghost use Rattle.seats.specs.Reading.{state-of, read-answer, read-request, read-decision};
+ghost use Rattle.seats.specs.Reading.{state-of, read-answer, read-request, read-decision, no-sets, read-changed};
 use crate::Answer;
+use crate::Changed;
 use crate::Decision;
 use crate::Request;
 use crate::Seat;
 use crate::SeatEntry;
 use crate::Stored;
-use crate::Taken;
 use crate::answers::refusal;
 use crate::searches;
 use crate::seating;
 use graph::Change;
 use graph::Privilege;
+use graph::Refusal;
 use graph::Role;
 use graph::Verdict;
 use graph::changing;
 use graph::declaring;
 use graph::refusing;
 use graph::refusing::refuse;
-use graph::table::SetTable;
 use graph::table::roles_at;
 
 // An answer that changes nothing.
@@ -235,6 +235,17 @@ fn judge_after<'a>(
     }
 }
 
+// A refused change: the roles as they were, and no sets.
+fn refused(roles: u64, found: Refusal) -> Changed
+    ensures { λ r. ⌜ ((C W : List ℕ) → read-changed r C W ≡ (refused (found .number) (found .place), state-of roles no-sets C W)) ⌝ }
+{
+    Changed {
+        answer: Answer::Refused(found),
+        roles,
+        sets: [0u64; 64],
+    }
+}
+
 // A change of the graph, but for refusal 24: judged, carried out, and judged again.
 fn try_change<'a>(
     roles: u64,
@@ -242,54 +253,41 @@ fn try_change<'a>(
     conflicts: &'a [u64],
     seats: &'a [u64],
     edit: Change,
-    next: &mut SetTable,
-) -> Taken
-    ensures { λ r. let C = now (conflicts .entry) in let W = now (seats .entry) in let s = state-of roles (now (sets .entry)) C W in let c = read-change edit in let h = after s (change c) in ⌜ (read-answer (r .answer), state-of (r .roles) (now (next .exit)) C W) ≡ settle (verdict ((input-checks c ++ state-checks (s .graph) c) ++ after-checks h c)) accepted (state-of roles (now (next .entry)) C W) h ⌝ }
+) -> Changed
+    ensures { λ r. let C = now (conflicts .entry) in let W = now (seats .entry) in let s = state-of roles (now (sets .entry)) C W in let c = read-change edit in let h = after s (change c) in ⌜ read-changed r C W ≡ settle (verdict ((input-checks c ++ state-checks (s .graph) c) ++ after-checks h c)) accepted (state-of roles no-sets C W) h ⌝ }
 {
-    let mut closed = [0u64; 64];
-    let tried = changing::attempt(roles, sets, edit, &mut closed);
+    let mut next = [0u64; 64];
+    let tried = changing::attempt(roles, sets, edit, &mut next);
     let before = tried.verdict;
     match before {
-        Verdict::Refused(found) => Taken {
-            answer: Answer::Refused(found),
-            roles,
-        },
+        Verdict::Refused(found) => refused(roles, found),
         Verdict::Passed => {
-            let after = judge_after(tried.roles, &closed, conflicts, seats, edit);
+            let after = judge_after(tried.roles, &next, conflicts, seats, edit);
             match after {
-                Verdict::Refused(found) => Taken {
-                    answer: Answer::Refused(found),
-                    roles,
+                Verdict::Refused(found) => refused(roles, found),
+                Verdict::Passed => Changed {
+                    answer: Answer::Accepted,
+                    roles: tried.roles,
+                    sets: next,
                 },
-                Verdict::Passed => {
-                    *next = closed;
-                    Taken {
-                        answer: Answer::Accepted,
-                        roles: tried.roles,
-                    }
-                }
             }
         }
     }
 }
 
-// What a change comes to: where it is accepted, the sets after it go into `next`; a refusal leaves the roles and `next`.
+// What a change comes to: the answer, and where it is accepted the roles and sets after it; a refused one has the roles as they were and no sets.
 pub fn decide_change<'a>(
     roles: u64,
     sets: &'a [u64],
     conflicts: &'a [u64],
     seats: &'a [u64],
     edit: Change,
-    next: &mut SetTable,
-) -> Taken
-    ensures { λ r. let C = now (conflicts .entry) in let W = now (seats .entry) in let s = state-of roles (now (sets .entry)) C W in let c = change (read-change edit) in let h = after s c in ⌜ (read-answer (r .answer), state-of (r .roles) (now (next .exit)) C W) ≡ settle (verdict (checks s c h)) accepted (state-of roles (now (next .entry)) C W) h ⌝ }
+) -> Changed
+    ensures { λ r. let C = now (conflicts .entry) in let W = now (seats .entry) in let s = state-of roles (now (sets .entry)) C W in let c = change (read-change edit) in let h = after s c in ⌜ read-changed r C W ≡ settle (verdict (checks s c h)) accepted (state-of roles no-sets C W) h ⌝ }
 {
     let verdict = judge_removal(roles, seats, edit);
     match verdict {
-        Verdict::Refused(found) => Taken {
-            answer: Answer::Refused(found),
-            roles,
-        },
-        Verdict::Passed => try_change(roles, sets, conflicts, seats, edit, next),
+        Verdict::Refused(found) => refused(roles, found),
+        Verdict::Passed => try_change(roles, sets, conflicts, seats, edit),
     }
 }

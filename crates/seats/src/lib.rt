@@ -85,6 +85,13 @@ pub struct Decision {
     pub stored: Stored,
 }
 
+// What a change comes to: its answer, and the roles and sets after it; a refused one has no sets.
+pub struct Changed {
+    pub answer: Answer,
+    pub roles: u64,
+    pub sets: [u64; 64],
+}
+
 // What a change or a record comes to where the tables are lent: its answer, and the roles after it.
 pub struct Taken {
     pub answer: Answer,

@@ -30,15 +30,15 @@ fn take_change<'a>(
 ) -> Taken
     ensures { λ r. let s = state-of roles (now (sets .entry)) (now (conflicts .entry)) (now (seats .entry)) in ⌜ (read-answer (r .answer), state-of (r .roles) (now (sets .exit)) (now (conflicts .entry)) (now (seats .entry))) ≡ perform s (change (read-change edit)) ⌝ }
 {
-    let mut next = [0u64; 64];
-    let decided = deciding::decide_change(roles, sets, conflicts, seats, edit, &mut next);
-    let answer = decided.answer;
+    let next = deciding::decide_change(roles, sets, conflicts, seats, edit);
+    let answer = next.answer;
     match answer {
         Answer::Accepted => {
-            *sets = next;
+            let after = next.sets;
+            *sets = after;
             Taken {
                 answer,
-                roles: decided.roles,
+                roles: next.roles,
             }
         }
         _ => Taken { answer, roles },

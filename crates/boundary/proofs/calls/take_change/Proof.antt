@@ -3,12 +3,12 @@
 use mathlib.Core.Path.{refl, sym, _∙_}
 use native.Mathlib.Omega.{arith}
 use borrow.Author.Needs.{needs}
-use Rattle.graph.specs.Reading.{sets-in}
 use lib.ListN.{length-set}
+use Rattle.graph.specs.Reading.{sets-in}
 use Rattle.seats.specs.Calls.{reply, perform}
 use Rattle.seats.specs.Reading.{state-of, read-answer}
-use Rattle.seats.proofs.Changing.{accepted-taken, other-taken}
 use Rattle.seats.proofs.Written.{written-length}
+use Rattle.seats.proofs.Changing.{accepted-taken, other-taken}
 use Rattle.boundary.specs.Block.{conflicts-word, seats-word, table-at, state-in}
 use Rattle.boundary.proofs.BlockWords.{graph-put, holds-own}
 use Rattle.boundary.proofs.CodedAnswer.{gives}
@@ -29,20 +29,20 @@ put-table-requires c κs = simp length-set (omega (arith, c .before .before .bef
 
 same-length : tie.Need-same-length
 same-length c =
-    let d = c .before .before .before .before .before .before .before .before in
-    let s = d .before .before .before .before in
+    let d = c .before .before .before .before .before .before .before .before .before in
+    let s = d .before .before .before in
     written-length (c .before .before .before .put-table .ensures) ∙ length-set (s .args .block .now) 0 (d .changed .result .roles)
 
 returns : tie.Need-returns
 unfolding perform reply sets-in
 returns c =
-    let d = c .before .before .before .before .before .before .before .before in
-    let s = d .before .before .before .before in
+    let d = c .before .before .before .before .before .before .before .before .before in
+    let s = d .before .before .before in
     let W = s .args .block .now in
     let r = d .changed .result in
-    let h = state-of (r .roles) (d .changed .last .1 .1 .0) (table-at W conflicts-word) (table-at W seats-word) in
+    let h = state-of (r .roles) (r .sets) (table-at W conflicts-word) (table-at W seats-word) in
     gives W (read-answer (r .answer)) h (c .code .ensures) (graph-put h W (s .pre) refl refl (c .before .before .before .put-table .ensures))
-    (accepted-taken _ _ _ (state-in W) (d .changed .ensures) (c .before .before .before .before .before .before .enum-told .given .1))
+    (accepted-taken _ _ _ (state-in W) (d .changed .ensures) (c .before .before .before .before .before .before .before .enum-told .given .1))
 
 same-length-2 : tie.Need-same-length-2
 same-length-2 c = search needs
@@ -51,7 +51,7 @@ returns-2 : tie.Need-returns-2
 unfolding perform reply
 returns-2 c =
     let d = c .before .before in
-    let s = d .before .before .before .before in
+    let s = d .before .before .before in
     let W = s .args .block .now in
     let r = d .changed .result in
     gives W (read-answer (r .answer)) (state-in W) (c .code2 .ensures) (sym (holds-own W (omega (arith, s .pre))))

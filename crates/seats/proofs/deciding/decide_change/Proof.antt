@@ -5,7 +5,7 @@ use borrow.Author.Needs.{needs}
 use Rattle.graph.specs.Refusing.{Verdict}
 use Rattle.graph.specs.Reading.{read-change}
 use Rattle.seats.specs.Calls.{accepted, settle}
-use Rattle.seats.specs.Reading.{state-of, read-answer}
+use Rattle.seats.specs.Reading.{no-sets, state-of}
 use Rattle.seats.proofs.Changing.{next, removal-refused, checks-without, settled-refused}
 use Rattle.seats.proofs.deciding.decide_change.Statement.{statement}
 use Rattle.seats.proofs.deciding.decide_change.Tie as tie
@@ -17,22 +17,21 @@ enum-told : tie.Need-enum-told
 enum-told c = search needs
 
 returns : tie.Need-returns
-unfolding read-answer
 returns c =
-    let j = c .before .before .before in
+    let j = c .before .before .before .before in
     let g = j .before .before .before .before .args in
     let s = state-of (g .roles) (g .sets .now) (g .conflicts .now) (g .seats .now) in
-    let told = c .before .verdict .given .1 in
-    settled-refused _ _ (removal-refused s (read-change (g .edit)) (j .judge-removal .ensures (g .sets .now) (g .conflicts .now)) told) told
+    let told = c .before .before .verdict .given .1 in
+    c .refused .ensures _ _ ∙ settled-refused _ _ (removal-refused s (read-change (g .edit)) (j .judge-removal .ensures (g .sets .now) (g .conflicts .now)) told) told
 
 returns-2 : tie.Need-returns-2
 returns-2 c =
-    let j = c .before .before .before .before in
+    let j = c .before .before .before in
     let g = j .before .before .before .before .args in
     let s = state-of (g .roles) (g .sets .now) (g .conflicts .now) (g .seats .now) in
     let d = read-change (g .edit) in
     c .try-change .ensures
-    ∙ ap (λ (v : Verdict). settle v accepted (state-of (g .roles) (g .next .now) (g .conflicts .now) (g .seats .now)) (next s d)) (checks-without s d (j .judge-removal .ensures (g .sets .now) (g .conflicts .now)) (c .before .before .enum-told .given .1))
+    ∙ ap (λ (v : Verdict). settle v accepted (state-of (g .roles) no-sets (g .conflicts .now) (g .seats .now)) (next s d)) (checks-without s d (j .judge-removal .ensures (g .sets .now) (g .conflicts .now)) (c .before .enum-told .given .1))
 
 pub decide-change-spec : {M : Type 1} → statement M
 decide-change-spec =
@@ -40,6 +39,7 @@ decide-change-spec =
     (tie.spec
     (λ c κs. tt)
     enum-known-verdict
+    (λ c κs. tt)
     enum-told
     (λ c κs. tt)
     returns

@@ -1,4 +1,4 @@
--- `seats::deciding::try_change` meets its contract: a refusal before or after closing leaves the roles and the table, and what passes has those after the change.
+-- `seats::deciding::try_change` meets its contract: a refusal before or after closing has the roles as they were and no sets, and what passes has those after the change.
 -- Assumes nothing.
 use mathlib.Core.List.{_++_}
 use mathlib.Core.Path.{_≡_, sym, ap, _∙_}
@@ -54,18 +54,17 @@ decided j =
     ∙ sym (passed-first (before-checks s d) (after-checks (next s d) d) (first (g .roles) (g .sets .now) (g .conflicts .now) d _ (a .result .verdict) (a .ensures)) (j .before .before .enum-told .given .1))
 
 returns : tie.Need-returns
-unfolding read-answer
 returns c =
-    let g = c .before .before .before .before .before .before .before .before .args in
+    let g = c .before .before .before .before .before .before .before .before .before .args in
     let s = state-of (g .roles) (g .sets .now) (g .conflicts .now) (g .seats .now) in
     let d = read-change (g .edit) in
-    let a = c .before .before .before .attempt in
-    let told = c .before .before2 .given .1 in
-    settled-refused _ _ (refused-first (before-checks s d) (after-checks (next s d) d) (first (g .roles) (g .sets .now) (g .conflicts .now) d _ (a .result .verdict) (a .ensures)) told) told
+    let a = c .before .before .before .before .attempt in
+    let told = c .before .before .before2 .given .1 in
+    c .refused .ensures _ _
+    ∙ settled-refused _ _ (refused-first (before-checks s d) (after-checks (next s d) d) (first (g .roles) (g .sets .now) (g .conflicts .now) d _ (a .result .verdict) (a .ensures)) told) told
 
 returns-2 : tie.Need-returns-2
-unfolding read-answer
-returns-2 c = settled-refused _ _ (decided (c .before .before .before)) (c .before .after .given .1)
+returns-2 c = c .refused2 .ensures _ _ ∙ settled-refused _ _ (decided (c .before .before .before .before)) (c .before .before .after .given .1)
 
 returns-3 : tie.Need-returns-3
 unfolding read-answer after with-graph
@@ -79,9 +78,11 @@ try-change-spec =
     (tie.spec
     (λ c κs. tt)
     enum-known-before
+    (λ c κs. tt)
     enum-told
     (λ c κs. tt)
     enum-known-after
+    (λ c κs. tt)
     enum-told-2
     returns
     returns-2

@@ -11,7 +11,7 @@ enum-told c = search needs
 
 returns : tie.Need-returns
 unfolding perform reply
-returns c = accepted-taken _ _ _ _ (c .before .before .decide-change .ensures) (c .enum-told .given .1)
+returns c = accepted-taken _ _ _ _ (c .before .before .before .decide-change .ensures) (c .before .enum-told .given .1)
 
 returns-2 : tie.Need-returns-2
 unfolding perform reply
