@@ -1,7 +1,9 @@
 -- How the code's values are read as the paper's: sets, graphs, verdicts and changes.
 use mathlib.Core.List.{List, []}
 use Prim.Native.Nat.{ℕ}
-use Rattle.graph.specs.Graph.{Graph}
+use lib.ListN.{replicate}
+use Rattle.sets.specs.Sets.{empty}
+use Rattle.graph.specs.Graph.{Graph, role-count}
 use Rattle.graph.specs.Editing.{Change, add-by-place, add-by-privileges, remove-role, grant, withdraw, add-edge, remove-edge}
 use Rattle.graph.specs.Refusing.{Verdict, passed, refused}
 use Rattle.graph.specs.declared.PrivilegeSet as privilege-set-struct
@@ -17,6 +19,10 @@ read-set s = s .word
 -- The sets of privileges that a table's words hold, by number.
 unfoldable pub sets-in : List ℕ → List ℕ
 sets-in words = words
+
+-- The words of a table without a set, where a change is refused.
+abbrev pub no-sets : List ℕ
+no-sets = replicate role-count empty
 
 -- The graph of these roles and sets, whatever the conflicts: its order, edges and direct privileges do not depend on them.
 abbrev pub drawn-from : ℕ → List ℕ → Graph

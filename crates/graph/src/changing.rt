@@ -4,7 +4,7 @@ ghost use Rattle.graph.specs.Drawing.{Drawing};
 ghost use Rattle.graph.specs.Closing.{close};
 ghost use Rattle.graph.specs.Editing.{changed};
 ghost use Rattle.graph.specs.Refusing.{passed, early, keep};
-ghost use Rattle.graph.specs.Reading.{sets-in, drawn-from, read-verdict, read-change};
+ghost use Rattle.graph.specs.Reading.{sets-in, no-sets, drawn-from, read-verdict, read-change};
 ghost use Rattle.graph.specs.Working.{Holds};
 use crate::Attempt;
 use crate::Change;
@@ -27,31 +27,33 @@ fn closed(roles: u64, directs: &SetTable, juniors: [u64; 64]) -> SetTable
     close::close(seniors, directs, &counted)
 }
 
-// The change carried out, where the checks before closing passed: the sets after it go into `next`, and the roles after it are given.
-fn carry_out(roles: u64, sets: &[u64], change: Change, next: &mut SetTable) -> u64
+// The change carried out, where the checks before closing passed.
+fn carry_out(roles: u64, sets: &[u64], change: Change) -> Attempt
     requires { ⌜ early (drawn-from roles (now sets)) (read-change change) ≡ passed ⌝ }
-    ensures { λ r. ⌜ drawn-from r (now (next .exit)) ≡ changed (drawn-from roles (now (sets .entry))) (read-change change) ⌝ }
+    ensures { λ r. ⌜ (read-verdict (r .verdict) ≡ passed) × (drawn-from (r .roles) (r .sets) ≡ changed (drawn-from roles (now (sets .entry))) (read-change change)) ⌝ }
 {
     let mut juniors = drawing::draw(roles, sets);
     let mut directs = drawing::direct_sets(drawing::senior_roles(roles), sets, &juniors);
     let after = editing::edit(roles, &mut directs, &mut juniors, change);
-    *next = closed(after, &directs, juniors);
-    after
+    let closed = closed(after, &directs, juniors);
+    Attempt {
+        verdict: Verdict::Passed,
+        roles: after,
+        sets: closed,
+    }
 }
 
-// Refusals 2 to 5 and 20 to 25 but for 24; where none comes, the sets after the change go into `next`, which a refusal leaves alone.
-pub fn attempt(roles: u64, sets: &[u64], change: Change, next: &mut SetTable) -> Attempt
-    ensures { λ r. let g = drawn-from roles (now (sets .entry)) in let c = read-change change in ⌜ (read-verdict (r .verdict), drawn-from (r .roles) (now (next .exit))) ≡ keep (early g c) (drawn-from roles (now (next .entry))) (changed g c) ⌝ }
+// Refusals 2 to 5 and 20 to 25 but for 24; where none comes, the roles and sets after the change, and otherwise the roles at hand and no sets.
+pub fn attempt(roles: u64, sets: &[u64], change: Change) -> Attempt
+    ensures { λ r. let g = drawn-from roles (now (sets .entry)) in let c = read-change change in ⌜ (read-verdict (r .verdict), drawn-from (r .roles) (r .sets)) ≡ keep (early g c) (drawn-from roles no-sets) (changed g c) ⌝ }
 {
     let verdict = refusing::judge(roles, sets, change);
     match verdict {
-        Verdict::Passed => {
-            let after = carry_out(roles, sets, change, next);
-            Attempt {
-                verdict,
-                roles: after,
-            }
-        }
-        Verdict::Refused(_) => Attempt { verdict, roles },
+        Verdict::Passed => carry_out(roles, sets, change),
+        Verdict::Refused(_) => Attempt {
+            verdict,
+            roles,
+            sets: [0u64; 64],
+        },
     }
 }

@@ -62,8 +62,9 @@ pub enum Change {
     RemoveEdge(Role, Role),
 }
 
-// What a change comes to before 26 to 30 are judged: its verdict, and the roles after it.
+// What a change comes to before 26 to 30 are judged: its verdict, and the roles and sets after it; a refused one has no sets.
 pub struct Attempt {
     pub verdict: Verdict,
     pub roles: u64,
+    pub sets: [u64; 64],
 }

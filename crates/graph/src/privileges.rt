@@ -19,7 +19,7 @@ pub fn single(p: Privilege) -> PrivilegeSet
     ensures { λ r. ⌜ read-set r ≡ spec.when (ltb (p .0) privilege-count) (spec.single (p .0)) ⌝ }
 {
     PrivilegeSet {
-        word: sets::single(p.0 as usize),
+        word: sets::insert(0, p.0 as usize),
     }
 }
 

@@ -1,9 +1,7 @@
 -- How the code's values are read as the paper's: states, calls, answers, and what filling a buffer answers.
 use mathlib.Core.List.{List}
 use Prim.Native.Nat.{ℕ}
-use lib.ListN.{set, replicate}
-use Rattle.sets.specs.Sets.{empty}
-use Rattle.graph.specs.Graph.{role-count}
+use lib.ListN.{set}
 use Rattle.graph.specs.Reading.{read-set, graph-of, read-change}
 use Rattle.seats.specs.Seats.{State}
 use Rattle.seats.specs.Calls.{Call, change, declare, lift, assign, unassign, ask, Answer, accepted, answered, refused, with-conflicts, with-seats}
@@ -78,10 +76,6 @@ stored s (storings.RolesOf e) = with-seats s (set (s .seats) (e .seat) (e .roles
 -- What a request comes to: its answer, and the state after it.
 abbrev pub read-decision : State → decision-struct.Decision → Answer × State
 read-decision s d = (read-answer (d .answer), stored s (d .stored))
-
--- A table without a set, where a change is refused.
-abbrev pub no-sets : List ℕ
-no-sets = replicate role-count empty
 
 -- What a change comes to: its answer, and the state after it, with these conflicts and seats.
 abbrev pub read-changed : changed-struct.Changed → List ℕ → List ℕ → Answer × State

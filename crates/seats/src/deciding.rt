@@ -4,11 +4,11 @@ ghost use mathlib.Core.List.{List, [], _++_};
 ghost use Prim.Native.Nat.{ℕ};
 ghost use Rattle.graph.specs.Editing.{remove-role};
 ghost use Rattle.graph.specs.Refusing.{verdict, input-checks, state-checks};
-ghost use Rattle.graph.specs.Reading.{drawn-from, read-verdict, read-change};
+ghost use Rattle.graph.specs.Reading.{no-sets, drawn-from, read-verdict, read-change};
 ghost use Rattle.seats.specs.Seats.{State};
 ghost use Rattle.seats.specs.Calls.{change, declare, lift, assign, unassign, accepted, refused, seat-role-checks, checks, after, settle, perform};
 ghost use Rattle.seats.specs.Working.{removal-checks, after-checks};
-ghost use Rattle.seats.specs.Reading.{state-of, read-answer, read-request, read-decision, no-sets, read-changed};
+ghost use Rattle.seats.specs.Reading.{state-of, read-answer, read-request, read-decision, read-changed};
 use crate::Answer;
 use crate::Changed;
 use crate::Decision;
@@ -256,8 +256,8 @@ fn try_change<'a>(
 ) -> Changed
     ensures { λ r. let C = now (conflicts .entry) in let W = now (seats .entry) in let s = state-of roles (now (sets .entry)) C W in let c = read-change edit in let h = after s (change c) in ⌜ read-changed r C W ≡ settle (verdict ((input-checks c ++ state-checks (s .graph) c) ++ after-checks h c)) accepted (state-of roles no-sets C W) h ⌝ }
 {
-    let mut next = [0u64; 64];
-    let tried = changing::attempt(roles, sets, edit, &mut next);
+    let tried = changing::attempt(roles, sets, edit);
+    let next = tried.sets;
     let before = tried.verdict;
     match before {
         Verdict::Refused(found) => refused(roles, found),

@@ -2,11 +2,11 @@
 -- Assumes nothing.
 use mathlib.Core.List.{List, []}
 use Prim.Native.Nat.{ℕ}
-use mathlib.Core.Path.{ap₂}
+use mathlib.Core.Path.{refl, ap₂}
 use borrow.Author.Needs.{needs}
 use Rattle.graph.specs.Drawing.{redraw}
 use Rattle.graph.specs.Editing.{edit, changed}
-use Rattle.graph.specs.Reading.{sets-in, drawn-from, read-change}
+use Rattle.graph.specs.Reading.{sets-in, drawn-from, read-verdict, read-change}
 use Rattle.graph.specs.Working.{Holds}
 use Rattle.graph.proofs.Holding.{drawn-holds}
 use Rattle.graph.proofs.changing.carry_out.Statement.{statement}
@@ -23,8 +23,8 @@ closed-requires : tie.Need-closed-requires
 closed-requires c κs = (_, held (c .before))
 
 returns : tie.Need-returns
-unfolding changed
-returns c = let h = held (c .before .before) in ap₂ (λ (r : ℕ) (s : List ℕ). record { roles = r; sets = s; conflicts = [] }) (h .same-roles) (c .closed .ensures _ h)
+unfolding changed read-verdict
+returns c = let h = held (c .before .before) in (refl, ap₂ (λ (r : ℕ) (s : List ℕ). record { roles = r; sets = s; conflicts = [] }) (h .same-roles) (c .closed .ensures _ h))
 
 pub carry-out-spec : {M : Type 1} → statement M
 carry-out-spec =

@@ -3,9 +3,9 @@
 use mathlib.Core.Path.{ap, _∙_}
 use borrow.Author.Needs.{needs}
 use Rattle.graph.specs.Refusing.{Verdict}
-use Rattle.graph.specs.Reading.{read-change}
+use Rattle.graph.specs.Reading.{no-sets, read-change}
 use Rattle.seats.specs.Calls.{accepted, settle}
-use Rattle.seats.specs.Reading.{no-sets, state-of}
+use Rattle.seats.specs.Reading.{state-of}
 use Rattle.seats.proofs.Changing.{next, removal-refused, checks-without, settled-refused}
 use Rattle.seats.proofs.deciding.decide_change.Statement.{statement}
 use Rattle.seats.proofs.deciding.decide_change.Tie as tie

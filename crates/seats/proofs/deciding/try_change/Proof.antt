@@ -30,12 +30,12 @@ enum-told-2 c = search needs
 -- What the attempt makes is the graph after the change.
 moved : (j : tie.After-judge-after) → (
     let g = j .before .before .before .before .before .before .before .before .before .args in
-    let a = j .before .before .before .before .attempt in
-    graph-of (a .result .roles) (a .last .1 .1 .1 .0) (g .conflicts .now) ≡ next (state-of (g .roles) (g .sets .now) (g .conflicts .now) (g .seats .now)) (read-change (g .edit)) .graph)
+    let a = j .before .before .before .before .before .attempt in
+    graph-of (a .result .roles) (a .result .sets) (g .conflicts .now) ≡ next (state-of (g .roles) (g .sets .now) (g .conflicts .now) (g .seats .now)) (read-change (g .edit)) .graph)
 unfolding after with-graph
 moved j =
     let g = j .before .before .before .before .before .before .before .before .before .args in
-    let a = j .before .before .before .before .attempt in
+    let a = j .before .before .before .before .before .attempt in
     after-passed (g .roles) (g .sets .now) (g .conflicts .now) (read-change (g .edit)) _ (a .result .verdict) (a .ensures) (j .before .before .enum-told .given .1)
 
 -- Where the attempt refuses nothing, the checks after closing decide.
@@ -49,7 +49,7 @@ decided j =
     let g = j .before .before .before .before .before .before .before .before .before .args in
     let s = state-of (g .roles) (g .sets .now) (g .conflicts .now) (g .seats .now) in
     let d = read-change (g .edit) in
-    let a = j .before .before .before .before .attempt in
+    let a = j .before .before .before .before .before .attempt in
     j .judge-after .ensures ∙ ap (λ (h : Graph). verdict (after-checks (record { graph = h; seats = g .seats .now }) d)) (moved j)
     ∙ sym (passed-first (before-checks s d) (after-checks (next s d) d) (first (g .roles) (g .sets .now) (g .conflicts .now) d _ (a .result .verdict) (a .ensures)) (j .before .before .enum-told .given .1))
 
@@ -58,7 +58,7 @@ returns c =
     let g = c .before .before .before .before .before .before .before .before .before .args in
     let s = state-of (g .roles) (g .sets .now) (g .conflicts .now) (g .seats .now) in
     let d = read-change (g .edit) in
-    let a = c .before .before .before .before .attempt in
+    let a = c .before .before .before .before .before .attempt in
     let told = c .before .before .before2 .given .1 in
     c .refused .ensures _ _
     ∙ settled-refused _ _ (refused-first (before-checks s d) (after-checks (next s d) d) (first (g .roles) (g .sets .now) (g .conflicts .now) d _ (a .result .verdict) (a .ensures)) told) told
