@@ -34,13 +34,10 @@ pub(crate) fn put_state(block: &mut [u64], state: State)
     requires { ⌜ block-length ≤ length (now block) ⌝ }
     ensures { λ _. ⌜ now (block .exit) ≡ holding (read-state state) (now (block .entry)) ⌝ }
 {
-    let sets = state.sets;
-    let conflicts = state.conflicts;
-    let seats = state.seats;
     block[0] = state.roles;
-    put_table(block, SETS, &sets);
-    put_table(block, CONFLICTS, &conflicts);
-    put_table(block, SEATS, &seats);
+    put_table(block, SETS, &state.sets);
+    put_table(block, CONFLICTS, &state.conflicts);
+    put_table(block, SEATS, &state.seats);
 }
 
 // Stores entry n of the table that starts at a word; beyond the table's end nothing.

@@ -45,8 +45,7 @@ pub extern "C" fn keeper_load(block: &mut [u64], bytes: &[u8]) -> u32
     let answer = loaded.answer;
     match answer {
         Answer::Accepted => {
-            let next = loaded.state;
-            put_state(block, next);
+            put_state(block, loaded.state);
             code(answer)
         }
         _ => code(answer),

@@ -29,13 +29,13 @@ same-length c = search needs
 returns-2 : tie.Need-returns-2
 unfolding load-block of-state
 returns-2 c =
-    let d = c .before .before .before .before .before .before .before .before in
+    let d = c .before .before .before .before .before .before .before in
     let p = d .before .before .before .before .before in
     let W = p .args .block .now in
     let r = d .load .result in
     rw (le-leb _ _ (d .before .before .if1 .left))
     (gives W (read-answer (r .answer)) (read-state (r .state)) (c .code .ensures) (c .before .before .before .put-state .ensures)
-    (load-accepted-any (read-state (d .before .fresh .result)) (state-in W) (p .args .bytes .now) (d .load .ensures) (c .before .before .before .before .before .before .enum-told .given .1)))
+    (load-accepted-any (read-state (d .before .fresh .result)) (state-in W) (p .args .bytes .now) (d .load .ensures) (c .before .before .before .before .before .enum-told .given .1)))
 
 returns-3 : tie.Need-returns-3
 unfolding load-block of-state
