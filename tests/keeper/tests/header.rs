@@ -102,10 +102,11 @@ fn lowered(text: &str) -> Vec<(String, String)> {
 }
 
 fn source() -> Functions {
-    let files = ["calls", "images", "reading"];
-    let text = files
-        .map(|file| text(&format!("../../crates/boundary/src/{file}.rt")))
-        .concat();
+    let folder = Path::new(env!("CARGO_MANIFEST_DIR")).join("../../crates/boundary/src");
+    let files = fs::read_dir(folder).expect("the crate's source");
+    let text: String = files
+        .map(|file| fs::read_to_string(file.expect("a file").path()).expect("its text"))
+        .collect();
     let function = |part: &str| {
         let (name, rest) = part.split_once('(').expect("a parenthesis");
         let (list, rest) = rest.split_once(") -> ").expect("a result");
