@@ -132,3 +132,12 @@ pub fn remove(s: PrivilegeSet, p: Privilege) -> PrivilegeSet
         word: sets::remove(s.word, p.0 as usize),
     }
 }
+
+// The members of s that are higher than p.
+pub fn above(s: PrivilegeSet, p: Privilege) -> PrivilegeSet
+    ensures { λ r. ⌜ read-set r ≡ spec.above privilege-count (p .0) (read-set s) ⌝ }
+{
+    PrivilegeSet {
+        word: sets::above(s.word, p.0 as usize),
+    }
+}

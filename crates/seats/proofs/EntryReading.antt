@@ -4,39 +4,31 @@ use mathlib.Core.Path.{_≡_, refl, sym, ap, _∙_, subst}
 use mathlib.Core.Bool.{Bool, true, false, _&&_, or-assoc}
 use mathlib.Core.Logic.{_≢_}
 use mathlib.Core.List.{List, [], _∷_}
-use Prim.Native.Nat.{ℕ, zero, suc, _+_, _-_, _<_}
+use Prim.Native.Nat.{ℕ, zero, suc, _+_, _-_, _*_, _≤_, _<_}
+use native.Mathlib.Nat.{mul-suc}
 use native.Mathlib.Numerals.{add-one}
 use native.Mathlib.Omega.{arith}
-use lib.ListN.{getD}
-use lib.ListN as lists
-use lib.Dec.{T, leb, leb→le, le→leb, ltb, ltb→lt}
+use lib.ListN.{getD, set}
+use lib.Dec.{T, leb, leb→le, le→leb}
 use Rattle.sets.specs.Sets.{member, single, union}
 use Rattle.sets.proofs.Tests.{both, join}
 use Rattle.sets.proofs.Laws.{member-union, equal-members, union-empty}
-use Rattle.graph.specs.Graph.{privilege-count}
 use Rattle.graph.specs.Tables.{at, put}
-use Rattle.seats.specs.Bytes.{number-at, Bytes}
-use Rattle.seats.specs.Images.{Entry, entries-at, keys, stored, stored-pairs, pair-place}
-use Rattle.seats.specs.ImageWork.{entry-of, ascends, numbered, paired, EntriesRead, stored-keys}
+use Rattle.seats.specs.Bytes.{number-at}
+use Rattle.seats.specs.Images.{Entry, entries-at, keys, stored, stored-pairs}
+use Rattle.seats.specs.ImageWork.{Part, Roles, Conflicts, Seats, entry-place, entry-passes, store-entries, entry-of, entry-at, EntryTaken, ascends, EntriesRead}
+use Rattle.seats.specs.declared.image.Part.the-variants as parts
 use Rattle.seats.proofs.EntryBytes.{Each}
 use Rattle.seats.proofs.AscendingEntries.{Rising}
-use Rattle.seats.proofs.ShortNumbers.{one-byte}
 
 -- ---- bytes
--- A list whose every place has a byte is a list of bytes.
-pub places-bytes : (l : List ℕ) → ((i : ℕ) → getD l i 0 < 256) → Bytes l
-unfolding Bytes
-places-bytes [] h = tt
-places-bytes (x ∷ l) h = (h 0, places-bytes l (λ i. h (suc i)))
-
 -- Where entries are left, the first stands at the place, and the others behind it.
-pub first-entry : (n i count : ℕ) (l : List ℕ) → count ≢ 0 → {v : ℕ} → v ≡ number-at n (i + 1) l
-    → entries-at n i count l ≡ entry-of (getD l i 0) v ∷ entries-at n (i + suc n) (count - 1) l
+pub first-entry : (n i count : ℕ) (l : List ℕ) → count ≢ 0 → entries-at n i count l ≡ entry-at n i l ∷ entries-at n (i + (1 + n)) (count - 1) l
 unfolding entries-at
-first-entry n i zero l some e = absurd (some refl)
-first-entry n i (suc count) l some e =
-    let v = ap (λ (k : ℕ). number-at n k l) (sym (add-one i)) ∙ sym e in
-    let p : suc i + n ≡ i + suc n = omega arith in
+first-entry n i zero l some = absurd (some refl)
+first-entry n i (suc count) l some =
+    let v = ap (λ (k : ℕ). number-at n k l) (sym (add-one i)) in
+    let p : suc i + n ≡ i + (1 + n) = omega arith in
     let q : count ≡ suc count - 1 = omega arith in
     λ d. entry-of (getD l i 0) (v d) ∷ entries-at n (p d) (q d) l
 
@@ -45,9 +37,13 @@ pub no-entries : (n i count : ℕ) (l : List ℕ) → count ≡ 0 → entries-at
 unfolding entries-at
 no-entries n i count l e = rw e
 
--- The first conflict, likewise.
-pub first-pair : (i count : ℕ) (l : List ℕ) → count ≢ 0 → entries-at 1 i count l ≡ entry-of (getD l i 0) (getD l (i + 1) 0) ∷ entries-at 1 (i + 2) (count - 1) l
-first-pair i count l some = first-entry 1 i count l some (one-byte (i + 1) l)
+-- The first of so many entries of this width has room, and so have the others behind it.
+pub entry-room : (w i count : ℕ) {n : ℕ} → count ≢ 0 → i + w * count ≤ n → (i + w ≤ n) × ((i + w) + w * (count - 1) ≤ n)
+entry-room w i zero some h = absurd (some refl)
+entry-room w i (suc count) some h =
+    let e = mul-suc w count in
+    let q : suc count - 1 ≡ count = omega arith in
+    rw q (omega arith, omega arith)
 
 -- ---- the test of an ascending list
 module _ (place : Entry → ℕ) (good : Entry → Bool) where
@@ -82,66 +78,73 @@ not-so e = absurd (subst T (sym e) tt)
 
 -- ---- entries under way
 -- The entries l of `whole` are left: what they leave of what there is, is what all leave of what there was.
-pub record EntriesLeft {A : Type 0} (place : Entry → ℕ) (good : Entry → Bool) (store : List Entry → A → A) (low : ℕ) (whole : List Entry) (before : A) (floor : ℕ) (values : A) (l : List Entry) : Type 0 where
-  pub tested : ascends place good floor l ≡ ascends place good low whole
+pub record EntriesLeft {A : Type 0} (place : Entry → ℕ) (good : Entry → Bool) (store : List Entry → A → A) (whole : List Entry) (before : A) (low : ℕ) (values : A) (l : List Entry) : Type 0 where
+  pub tested : ascends place good low l ≡ ascends place good 0 whole
   pub filled : store l values ≡ store whole before
 
-module _ {A : Type 0} (place : Entry → ℕ) (good : Entry → Bool) (store : List Entry → A → A) where
-  pub entries-all : (low : ℕ) (l : List Entry) (before : A) → EntriesLeft place good store low l before low before l
-  entries-all low l before = record { tested = refl; filled = refl }
+-- Nothing stored leaves all as it is.
+store-none : (part : Part) (z : ℕ × List ℕ) → store-entries part [] z ≡ z
+unfolding store-entries keys stored stored-pairs
+store-none parts.Roles z = ap (λ (s : ℕ). (s, z .1)) (union-empty (z .0))
+store-none parts.Conflicts z = refl
+store-none parts.Seats z = refl
 
-  module _ {low : ℕ} {whole : List Entry} {before : A} {floor : ℕ} {values : A} where
-    module _ (e : Entry) (l : List Entry) (w : EntriesLeft place good store low whole before floor values (e ∷ l)) where
+module _ (part : Part) (present : ℕ) where
+  -- The entries of a part that are left.
+  abbrev pub PartLeft : List Entry → List ℕ → ℕ → ℕ → List ℕ → List Entry → Type 0
+  PartLeft whole before low roles table l =
+      EntriesLeft (entry-place part) (entry-passes part present) (store-entries part) whole (0, before) low (roles, table) l
+
+  -- What was read of a part.
+  abbrev pub PartRead : List Entry → List ℕ → ℕ → List ℕ → Bool → Type 0
+  PartRead whole before roles table sound =
+      EntriesRead (entry-place part) (entry-passes part present) (store-entries part) whole (0, before) (roles, table) sound
+
+  pub part-all : (l : List Entry) (before : List ℕ) → PartLeft l before 0 0 before l
+  part-all l before = record { tested = refl; filled = refl }
+
+  module _ {whole : List Entry} {before : List ℕ} {low roles : ℕ} {table : List ℕ} where
+    module _ (e : Entry) (l : List Entry) (w : PartLeft whole before low roles table (e ∷ l)) {after : List ℕ} {sound : Bool} {place role : ℕ} (t : EntryTaken part present low e table after sound place role) where
       -- The first entry left passes, and is stored.
-      pub entries-next : leb floor (place e) && good e ≡ true → {next : A} → store l next ≡ store (e ∷ l) values → EntriesLeft place good store low whole before (place e + 1) next l
-      entries-next t q = record { tested = sym (ascends-next place good floor e l t) ∙ w .tested; filled = q ∙ w .filled }
+      pub part-next : sound ≡ true → {next : ℕ} → next ≡ union roles role → PartLeft whole before (place + 1) next after l
+      part-next s q = record {
+        tested = ap (λ (k : ℕ). ascends (entry-place part) (entry-passes part present) (k + 1) l) (t .placed) ∙ sym (ascends-next (entry-place part) (entry-passes part present) low e l (sym (t .tested) ∙ s)) ∙ w .tested;
+        filled = ap (λ (k : ℕ). store-entries part l (k, after)) q ∙ t .filled s roles l ∙ w .filled;
+      }
 
       -- It is refused.
-      pub entries-refused : leb floor (place e) && good e ≡ false → EntriesRead place good store low whole before values false
-      entries-refused t = record { tested = sym (ascends-stops place good floor e l t) ∙ w .tested; filled = λ q. not-so q }
+      pub part-refused : sound ≡ false → PartRead whole before roles after false
+      part-refused s = record { tested = sym (ascends-stops (entry-place part) (entry-passes part present) low e l (sym (t .tested) ∙ s)) ∙ w .tested; filled = λ q. not-so q }
 
     -- None is left.
-    pub entries-done : EntriesLeft place good store low whole before floor values [] → store [] values ≡ values → EntriesRead place good store low whole before values true
+    pub part-done : PartLeft whole before low roles table [] → PartRead whole before roles table true
     unfolding ascends
-    entries-done w q = record { tested = w .tested; filled = λ _. sym q ∙ w .filled }
+    part-done w = record { tested = w .tested; filled = λ _. sym (store-none part (roles, table)) ∙ w .filled }
 
--- ---- a table
+-- ---- one entry stored
 union-assoc : (s t u : ℕ) → union (union s t) u ≡ union s (union t u)
 union-assoc s t u =
     equal-members (union (union s t) u) (union s (union t u))
     (λ n. simp member-union (or-assoc (member n s) (member n t) (member n u)))
 
--- The key of an entry that passes is below 64.
-pub key-lt : (floor least allowed k v : ℕ) → leb floor k && numbered least allowed (entry-of k v) ≡ true → k < 64
-unfolding numbered
-key-lt floor least allowed k v t =
-    let (a, b) = both (leb floor k) (numbered least allowed (entry-of k v)) (subst T (sym t) tt) in
-    ltb→lt k 64 (both (ltb k 64) _ b .0)
+module _ (held : ℕ) (values : List ℕ) (l : List Entry) where
+  pub role-stored : (k v : ℕ) → store-entries Roles l (union held (single k), set values k v) ≡ store-entries Roles (entry-of k v ∷ l) (held, values)
+  unfolding store-entries keys stored
+  role-stored k v = ap (λ (s : ℕ). (s, stored l (set values k v))) (union-assoc held (single k) (keys l))
 
--- No entry stored, and one stored in a table.
-pub key-none : (z : ℕ × List ℕ) → stored-keys [] z ≡ z
-unfolding keys stored
-key-none z = ap (λ (s : ℕ). (s, z .1)) (union-empty (z .0))
+  pub conflict-stored : (a b : ℕ) → store-entries Conflicts l (union held 0, set values a (union (at values a) (single b))) ≡ store-entries Conflicts (entry-of a b ∷ l) (held, values)
+  unfolding store-entries stored-pairs put
+  conflict-stored a b = ap (λ (s : ℕ). (s, stored-pairs l (put values a b))) (union-empty held)
 
-pub key-stored : (held k v : ℕ) (values : List ℕ) (l : List Entry) {one next : ℕ} → one ≡ single k → next ≡ union held one → stored-keys l (next, lists.set values k v) ≡ stored-keys (entry-of k v ∷ l) (held, values)
-unfolding keys stored
-key-stored held k v values l o q =
-    ap (λ (s : ℕ). (s, stored l (lists.set values k v))) (ap (λ (s : ℕ). union s (keys l)) (q ∙ ap (union held) o) ∙ union-assoc held (single k) (keys l))
+  pub seat-stored : (k v : ℕ) → store-entries Seats l (union held 0, set values k v) ≡ store-entries Seats (entry-of k v ∷ l) (held, values)
+  unfolding store-entries stored
+  seat-stored k v = ap (λ (s : ℕ). (s, stored l (set values k v))) (union-empty held)
 
--- ---- conflicts
--- The privileges of a conflict that passes ascend and are privileges.
-pub pair-lt : (floor a b : ℕ) → leb floor (pair-place (entry-of a b)) && paired (entry-of a b) ≡ true → (a < b) × (b < privilege-count)
-unfolding paired
-pair-lt floor a b t =
-    let (x, y) = both (leb floor (pair-place (entry-of a b))) (paired (entry-of a b)) (subst T (sym t) tt) in
-    let (p, q) = both (ltb a b) (ltb b privilege-count) y in
-    (ltb→lt a b p, ltb→lt b privilege-count q)
+-- An entry that is refused leaves its table as it was.
+pub entry-refused : (part : Part) (present low : ℕ) (e : Entry) (table : List ℕ) {sound : Bool} {place role : ℕ} → leb low (entry-place part e) && entry-passes part present e ≡ false → sound ≡ false → place ≡ entry-place part e → place < 65536 → EntryTaken part present low e table table sound place role
+entry-refused part present low e table t s p h = record { tested = s ∙ sym t; placed = p; small = h; filled = λ q. not-so (sym s ∙ q) }
 
--- No conflict stored, and one stored in a table.
-pub pair-none : (values : List ℕ) → stored-pairs [] values ≡ values
-unfolding stored-pairs
-pair-none values = refl
-
-pub pair-stored : (a b : ℕ) (values : List ℕ) (l : List Entry) {one next : ℕ} → one ≡ single b → next ≡ union (at values a) one → stored-pairs l (lists.set values a next) ≡ stored-pairs (entry-of a b ∷ l) values
-unfolding stored-pairs put
-pair-stored a b values l o q = ap (λ (s : ℕ). stored-pairs l (lists.set values a s)) (q ∙ ap (union (at values a)) o)
+-- An entry that passes, with what it makes of its table.
+pub entry-passed : (part : Part) (present low : ℕ) (e : Entry) (before after : List ℕ) {place role : ℕ} → leb low (entry-place part e) && entry-passes part present e ≡ true → place ≡ entry-place part e → place < 65536
+    → ((held : ℕ) (l : List Entry) → store-entries part l (union held role, after) ≡ store-entries part (e ∷ l) (held, before)) → EntryTaken part present low e before after true place role
+entry-passed part present low e before after t p h f = record { tested = sym t; placed = p; small = h; filled = λ _. f }

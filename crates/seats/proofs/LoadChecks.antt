@@ -4,101 +4,73 @@ use mathlib.Core.Path.{_≡_, refl, sym, ap, ap₂, _∙_, subst}
 use mathlib.Core.Bool.{Bool, true, false, not, cond, _&&_}
 use mathlib.Core.Logic.{_≢_, inl, inr}
 use mathlib.Core.List.{List, [], _∷_, _++_}
-use Prim.Native.Nat.{ℕ, _-_, _^_, _<_, _≤_}
-use native.Mathlib.Nat.{mod-eq-of-lt}
-use native.Mathlib.Omega.{arith}
+use Prim.Native.Nat.{ℕ, _-_, _<_, _≤_}
 use lib.ListN.{length, replicate}
-use lib.ListN as lists
-use lib.Bits.{and-mask, or-zero-l}
-use lib.Dec.{T, T-not, not-T, eqb, leb, leb→le, le→leb, ltb, ltb→lt, lt→ltb}
+use lib.Bits.{or-zero-l}
+use lib.Dec.{T, T-not, not-T, eqb, ltb, ltb→lt, lt→ltb}
 use borrow.Author.Tests.{lt-ltb, le-ltb, le-leb, lt-leb, eq-eqb, ne-eqb}
 use Rattle.sets.specs.Sets.{empty, union, included}
-use Rattle.sets.proofs.Tests.{both, join, passes, fails, decide, equal-test, test-equal}
+use Rattle.sets.proofs.Tests.{both, join, passes, fails, decide}
 use Rattle.graph.specs.Graph.{privilege-count}
 use Rattle.graph.specs.Refusing.{Check, Verdict, passed, refused, verdict}
-use Rattle.graph.specs.Reading.{sets-in, read-verdict}
+use Rattle.graph.specs.Reading.{read-verdict}
 use Rattle.graph.specs.declared.Verdict.the-variants.{Passed, Refused}
 use Rattle.graph.proofs.Refusals.{Passes, verdict-passes}
 use Rattle.graph.proofs.Judging.{stops, moves-on, refused-first, passed-first}
-use Rattle.seats.specs.Seats.{State}
-use Rattle.seats.specs.Calls.{Answer}
-use Rattle.seats.specs.Calls as answers
-use Rattle.seats.specs.Images.{Entry, least-image, Counts, distance, Contents, far-at, counts-at, contents, keys, end-sets, restored, pair-place, entry-checks, content-checks, loaded, not-loaded, unless-refused, load-contents, load-trailer, load, settle-load, load-over}
-use Rattle.seats.specs.Reading.{state-of}
-use Rattle.seats.specs.ImageWork.{ascends, numbered, paired, TableRead, PairsRead, ContentsRead}
-use Rattle.seats.proofs.EntryBytes.{Each, each-map, each-zip}
-use Rattle.seats.proofs.AscendingEntries.{Rising, rising-low, above}
-use Rattle.seats.proofs.LoadFacts.{Ordered, ordered, ordered-passes}
-use Rattle.seats.proofs.LoadRefusals.{load-refused-keeps}
-use Rattle.seats.proofs.EntryReading.{ascends-rising, rising-ascends}
+use Rattle.seats.specs.Seats.{State, seat-count}
+use Rattle.seats.specs.Images.{Entry, least-image, Counts, distance, Contents, far-at, counts-at, contents, keys, stored, stored-pairs, end-sets, restored, no-ordinary-number, entry-checks, content-checks, Loaded, loaded, not-loaded, judged, unless-refused, load-contents, load-trailer, load}
+use Rattle.seats.specs.ImageWork.{Part, Roles, Conflicts, Seats, entry-place, entry-passes, store-entries, ascends, ContentsRead}
+use Rattle.seats.proofs.EntryBytes.{Each, each-map}
+use Rattle.seats.proofs.AscendingEntries.{Rising}
+use Rattle.seats.proofs.LoadFacts.{role-number, number-role, Ordered, ordered, ordered-passes}
+use Rattle.seats.proofs.EntryReading.{ascends-rising, rising-ascends, PartRead}
 
 -- ---- the entries
--- The set of all roles or privileges.
-abbrev all-sets : ℕ
-all-sets = 18446744073709551615
-
-all-included : (s : ℕ) → s < 2 ^ 64 → T (included s all-sets)
-unfolding included
-all-included s h = equal-test (and-mask s 64 ∙ mod-eq-of-lt h)
-
 module _ (c : Contents) where
-  -- What the readers test of the roles, the conflicts and the seats.
-  abbrev roles-test : Bool
-  roles-test = ascends Entry.key (numbered 0 all-sets) 2 (c .roles)
-
-  abbrev pairs-test : Bool
-  pairs-test = ascends pair-place paired 0 (c .conflicts)
-
-  abbrev seats-test : ℕ → Bool
-  seats-test present = ascends Entry.key (numbered 1 present) 0 (c .seats)
+  -- What the reader tests of the roles, the conflicts and the seats.
+  abbrev tests : Part → ℕ → List Entry → Bool
+  tests part present l = ascends (entry-place part) (entry-passes part present) 0 l
 
   abbrev entries-test : Bool
-  entries-test = (roles-test && pairs-test) && seats-test (keys (c .roles))
+  entries-test = (tests Roles 0 (c .roles) && tests Conflicts 0 (c .conflicts)) && tests Seats (keys (c .roles)) (c .seats)
+
+  rises : (part : Part) (present : ℕ) (l : List Entry) → T (tests part present l) → Rising (entry-place part) 0 l × Each (λ e. T (entry-passes part present e)) l
+  rises part present l = ascends-rising (entry-place part) (entry-passes part present) 0 l
+
+  tested : (part : Part) (present : ℕ) (l : List Entry) → Rising (entry-place part) 0 l → Each (λ e. T (entry-passes part present e)) l → T (tests part present l)
+  tested part present l = rising-ascends (entry-place part) (entry-passes part present) 0 l
 
   test-ordered : T entries-test → Ordered c
-  unfolding numbered paired
+  unfolding entry-place entry-passes
   test-ordered t =
-      let (u, s) = both (roles-test && pairs-test) (seats-test (keys (c .roles))) t in
-      let (r, p) = both roles-test pairs-test u in
-      let (rise, good) = ascends-rising Entry.key (numbered 0 all-sets) 2 (c .roles) r in
-      let (rise-p, good-p) = ascends-rising pair-place paired 0 (c .conflicts) p in
-      let (rise-s, good-s) = ascends-rising Entry.key (numbered 1 (keys (c .roles))) 0 (c .seats) s in
+      let (u, s) = both (tests Roles 0 (c .roles) && tests Conflicts 0 (c .conflicts)) (tests Seats (keys (c .roles)) (c .seats)) t in
+      let (r, p) = both (tests Roles 0 (c .roles)) (tests Conflicts 0 (c .conflicts)) u in
+      let (rise, good) = rises Roles 0 (c .roles) r in
+      let (rise-p, good-p) = rises Conflicts 0 (c .conflicts) p in
+      let (rise-s, good-s) = rises Seats (keys (c .roles)) (c .seats) s in
       record {
-        roles-rise = rising-low Entry.key 0 2 (c .roles) (omega arith) rise;
-        roles = each-zip (c .roles) (λ e a b. (a, ltb→lt (e .key) 64 (both (ltb (e .key) 64) _ b .0))) (above Entry.key 2 (c .roles) rise) good;
+        roles-rise = rise;
+        roles = each-map (c .roles) (λ e b. role-number e (T-not (no-ordinary-number e) b)) good;
         conflicts-rise = rise-p;
         conflicts = each-map (c .conflicts) (λ e b. let (x, y) = both (ltb (e .key) (e .value)) (ltb (e .value) privilege-count) b in (ltb→lt (e .key) (e .value) x, ltb→lt (e .value) privilege-count y)) good-p;
         seats-rise = rise-s;
         seats = each-map (c .seats) seat good-s;
       }
     where
-      seat : (e : Entry) → T (numbered 1 (keys (c .roles)) e) → (e .key < 64) × T (not (eqb (e .value) empty)) × T (included (e .value) (keys (c .roles)))
+      seat : (e : Entry) → T (ltb (e .key) seat-count && (not (eqb (e .value) empty) && included (e .value) (keys (c .roles)))) → (e .key < seat-count) × T (not (eqb (e .value) empty)) × T (included (e .value) (keys (c .roles)))
       seat e b =
-          let (x, y) = both (ltb (e .key) 64) _ b in
-          let (m, n) = both (leb 1 (e .value)) (included (e .value) (keys (c .roles))) y in
-          (ltb→lt (e .key) 64 x, not-T (eqb (e .value) empty) (λ z. let q : e .value ≡ 0 = test-equal z in let l = leb→le 1 (e .value) m in omega arith), n)
+          let (x, y) = both (ltb (e .key) seat-count) _ b in
+          let (m, n) = both (not (eqb (e .value) empty)) (included (e .value) (keys (c .roles))) y in
+          (ltb→lt (e .key) seat-count x, m, n)
 
-  ordered-test : Each (λ e. e .value < 2 ^ 64) (c .roles) → Ordered c → T entries-test
-  unfolding numbered paired
-  ordered-test small o =
-      join (roles-test && pairs-test) (seats-test (keys (c .roles)))
-      (join roles-test pairs-test
-      (rising-ascends Entry.key (numbered 0 all-sets) 2 (c .roles) (from-two (c .roles) (o .roles-rise) (o .roles)) (each-zip (c .roles) role (o .roles) small))
-      (rising-ascends pair-place paired 0 (c .conflicts) (o .conflicts-rise) (each-map (c .conflicts) (λ e p. join (ltb (e .key) (e .value)) (ltb (e .value) privilege-count) (lt→ltb (e .key) (e .value) (p .0)) (lt→ltb (e .value) privilege-count (p .1))) (o .conflicts))))
-      (rising-ascends Entry.key (numbered 1 (keys (c .roles))) 0 (c .seats) (o .seats-rise) (each-map (c .seats) seat (o .seats)))
-    where
-      from-two : (l : List Entry) → Rising Entry.key 0 l → Each (λ e. (2 ≤ e .key) × (e .key < 64)) l → Rising Entry.key 2 l
-      from-two [] r h = tt
-      from-two (e ∷ l) r h = (h .0 .0, r .1)
-
-      role : (e : Entry) → (2 ≤ e .key) × (e .key < 64) → e .value < 2 ^ 64 → T (numbered 0 all-sets e)
-      role e p s =
-          join (ltb (e .key) 64) _ (lt→ltb (e .key) 64 (p .1)) (join (leb 0 (e .value)) (included (e .value) all-sets) (le→leb 0 (e .value) (omega arith)) (all-included (e .value) s))
-
-      seat : (e : Entry) → (e .key < 64) × T (not (eqb (e .value) empty)) × T (included (e .value) (keys (c .roles))) → T (numbered 1 (keys (c .roles)) e)
-      seat e p =
-          let d : e .value ≢ 0 = λ q. T-not (eqb (e .value) empty) (p .1) (equal-test q) in
-          join (ltb (e .key) 64) _ (lt→ltb (e .key) 64 (p .0)) (join (leb 1 (e .value)) (included (e .value) (keys (c .roles))) (le→leb 1 (e .value) (omega arith)) (p .2))
+  ordered-test : Ordered c → T entries-test
+  unfolding entry-place entry-passes
+  ordered-test o =
+      join (tests Roles 0 (c .roles) && tests Conflicts 0 (c .conflicts)) (tests Seats (keys (c .roles)) (c .seats))
+      (join (tests Roles 0 (c .roles)) (tests Conflicts 0 (c .conflicts))
+      (tested Roles 0 (c .roles) (o .roles-rise) (each-map (c .roles) (λ e p. not-T (no-ordinary-number e) (number-role e p)) (o .roles)))
+      (tested Conflicts 0 (c .conflicts) (o .conflicts-rise) (each-map (c .conflicts) (λ e p. join (ltb (e .key) (e .value)) (ltb (e .value) privilege-count) (lt→ltb (e .key) (e .value) (p .0)) (lt→ltb (e .value) privilege-count (p .1))) (o .conflicts))))
+      (tested Seats (keys (c .roles)) (c .seats) (o .seats-rise) (each-map (c .seats) (λ e p. join (ltb (e .key) seat-count) _ (lt→ltb (e .key) seat-count (p .0)) (join (not (eqb (e .value) empty)) (included (e .value) (keys (c .roles))) (p .1) (p .2))) (o .seats)))
 
 -- ---- verdicts of one refusal
 -- Every check of the list has this number and place.
@@ -121,37 +93,50 @@ alike-verdict n p l h false f g = refuses l h g
         ]
 
 -- ---- the contents
--- What the readers of the parts leave and test is what the contents describe and refusal 7 tests.
-module _ (c : Contents) (small : Each (λ e. e .value < 2 ^ 64) (c .roles)) {sets conflicts seats : List ℕ} {present occupied : ℕ} {a b d : Bool}
-    (r : TableRead (c .roles) 2 0 all-sets (end-sets (c .top)) sets present a) (p : PairsRead (c .conflicts) (replicate privilege-count 0) conflicts b)
-    (s : TableRead (c .seats) 0 1 present (replicate 64 0) seats occupied d) where
+-- What reading the parts leaves and tests is what the contents describe and refusal 7 tests.
+module _ (c : Contents) {sets conflicts seats : List ℕ} {present other another : ℕ} {a b d : Bool}
+    (r : PartRead Roles 0 (c .roles) (end-sets (c .top)) present sets a) (p : PartRead Conflicts 0 (c .conflicts) (replicate privilege-count empty) other conflicts b)
+    (s : PartRead Seats present (c .seats) (replicate seat-count empty) another seats d) where
   keyed : a ≡ true → present ≡ keys (c .roles)
-  unfolding union
+  unfolding union store-entries
   keyed e = ap (λ (z : ℕ × List ℕ). z .0) (r .filled e) ∙ or-zero-l (keys (c .roles))
 
   sound-test : (a && b) && d ≡ entries-test c
-  sound-test = by-roles a refl ∙ ap (λ (x : Bool). (x && pairs-test c) && seats-test c (keys (c .roles))) (r .tested)
+  sound-test = by-roles a refl ∙ ap (λ (x : Bool). (x && tests c Conflicts 0 (c .conflicts)) && tests c Seats (keys (c .roles)) (c .seats)) (r .tested)
     where
-      by-roles : (x : Bool) → a ≡ x → (x && b) && d ≡ (x && pairs-test c) && seats-test c (keys (c .roles))
-      by-roles true e = ap₂ _&&_ (p .tested) (s .tested ∙ ap (seats-test c) (keyed e))
+      by-roles : (x : Bool) → a ≡ x → (x && b) && d ≡ (x && tests c Conflicts 0 (c .conflicts)) && tests c Seats (keys (c .roles)) (c .seats)
+      by-roles true e = ap₂ _&&_ (p .tested) (s .tested ∙ ap (λ (x : ℕ). tests c Seats x (c .seats)) (keyed e))
       by-roles false e = refl
 
-  pub contents-read : ContentsRead c (state-of present sets conflicts seats) ((a && b) && d)
-  unfolding restored entry-checks sets-in
+  -- The tables that the parts leave where they pass.
+  sets-read : a ≡ true → sets ≡ stored (c .roles) (end-sets (c .top))
+  unfolding store-entries
+  sets-read e = ap (λ (z : ℕ × List ℕ). z .1) (r .filled e)
+
+  conflicts-read : b ≡ true → conflicts ≡ stored-pairs (c .conflicts) (replicate privilege-count empty)
+  unfolding store-entries
+  conflicts-read e = ap (λ (z : ℕ × List ℕ). z .1) (p .filled e)
+
+  seats-read : d ≡ true → seats ≡ stored (c .seats) (replicate seat-count empty)
+  unfolding store-entries
+  seats-read e = ap (λ (z : ℕ × List ℕ). z .1) (s .filled e)
+
+  pub contents-read : ContentsRead c (record { graph = record { roles = present; sets = sets; conflicts = conflicts }; seats = seats }) ((a && b) && d)
+  unfolding restored entry-checks
   contents-read = record {
     tested =
         alike-verdict 7 0 (entry-checks c)
         ((refl, refl), ((refl, refl), ((refl, refl), ((refl, refl), ((refl, refl), ((refl, refl), ((refl, refl), ((refl, refl), ((refl, refl), tt)))))))))
         ((a && b) && d) (λ t. ordered-passes c (test-ordered c (subst T sound-test t)))
-        (λ q. subst T (sym sound-test) (ordered-test c small (ordered c q)));
+        (λ q. subst T (sym sound-test) (ordered-test c (ordered c q)));
     described = λ e.
         let (x, y) = both (a && b) d (subst T (sym e) tt) in
         let (u, v) = both a b x in
         let k = keyed (passes a u) in
-        let f = ap (λ (z : ℕ × List ℕ). z .1) (r .filled (passes a u)) in
-        let g = p .filled (passes b v) in
-        let h = ap (λ (z : ℕ × List ℕ). z .1) (s .filled (passes d y)) in
-        λ i. state-of (k i) (f i) (g i) (h i);
+        let f = sets-read (passes a u) in
+        let g = conflicts-read (passes b v) in
+        let h = seats-read (passes d y) in
+        λ i. record { graph = record { roles = k i; sets = f i; conflicts = g i }; seats = h i };
   }
 
 module _ {c : Contents} {h : State} {b : Bool} (w : ContentsRead c h b) where
@@ -208,10 +193,37 @@ module _ (l : List ℕ) {far : ℕ} {n : Counts} (long : least-image ≤ length 
     unfolding load-trailer
     contents-decide h = trailer-decides ∙ rw (eq-eqb far (distance n) e, le-leb far (length l) h)
 
--- ---- what loading leaves
-pub refused-load : (s : State) (l : List ℕ) (n : ℕ) → load l ≡ not-loaded n 0 → {a : Answer} {h : State} → a ≡ answers.refused n 0 → h ≡ s → _≡_ {A = Answer × State} (a, h) (load-over s l)
-refused-load s l n e p q = ap₂ (λ (a : Answer) (h : State). (a, h)) p q ∙ sym (load-refused-keeps s l n 0 e)
+-- ---- what reading an image gives
+pub read-refused : (l : List ℕ) (n : ℕ) → load l ≡ not-loaded n 0 → {r : Verdict × State} → r ≡ judged (not-loaded n 0) → r ≡ judged (load l)
+read-refused l n e q = q ∙ ap judged (sym e)
 
-pub accepted-load : (s : State) (l : List ℕ) (h : State) → load l ≡ loaded h → _≡_ {A = Answer × State} (answers.accepted, h) (load-over s l)
-unfolding load-over settle-load
-accepted-load s l h e = rw e
+pub read-passed : (l : List ℕ) (s : State) → load l ≡ loaded s → _≡_ {A = Verdict × State} (passed, s) (judged (load l))
+unfolding judged
+read-passed l s e = ap judged (sym e)
+
+-- A verdict that passes is no refusal.
+abbrev Goes : Verdict → Type 0
+Goes passed = Unit {0}
+Goes (refused n p) = ⊥
+
+-- What a verdict refuses.
+abbrev refusal-of : Verdict → Loaded
+refusal-of passed = not-loaded 0 0
+refusal-of (refused n p) = not-loaded n p
+
+-- And back, from what was read.
+passed-read : (x : Loaded) (s : State) → _≡_ {A = Verdict × State} (passed, s) (judged x) → x ≡ loaded s
+unfolding judged
+passed-read (loaded h) s e = ap (λ (z : Verdict × State). loaded (z .1)) (sym e)
+passed-read (not-loaded n p) s e = absurd (subst Goes (ap (λ (z : Verdict × State). z .0) e) tt)
+
+refused-read : (x : Loaded) (n p : ℕ) (s : State) → _≡_ {A = Verdict × State} (refused n p, s) (judged x) → x ≡ not-loaded n p
+unfolding judged
+refused-read (loaded h) n p s e = absurd (subst Goes (sym (ap (λ (z : Verdict × State). z .0) e)) tt)
+refused-read (not-loaded m q) n p s e = ap (λ (z : Verdict × State). refusal-of (z .0)) (sym e)
+
+pub loads-passed : (l : List ℕ) (s : State) → _≡_ {A = Verdict × State} (passed, s) (judged (load l)) → load l ≡ loaded s
+loads-passed l s e = passed-read (load l) s e
+
+pub loads-refused : (l : List ℕ) (n p : ℕ) (s : State) → _≡_ {A = Verdict × State} (refused n p, s) (judged (load l)) → load l ≡ not-loaded n p
+loads-refused l n p s e = refused-read (load l) n p s e

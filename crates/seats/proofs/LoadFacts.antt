@@ -13,7 +13,7 @@ use Rattle.sets.proofs.Tests.{both, either, or-left, or-right, so, test-equal}
 use Rattle.graph.specs.Graph.{role-count, is-end, privilege-count}
 use Rattle.graph.specs.Refusing.{Verdict, passed, refused, verdict}
 use Rattle.seats.specs.Seats.{State, seat-count}
-use Rattle.seats.specs.Images.{Entry, Contents, least-image, distance, far-at, counts-at, contents, keys, restored, pair-place, no-ordinary-number, entry-checks, content-checks, Loaded, loaded, not-loaded, unless-refused, load-contents, load-trailer, load}
+use Rattle.seats.specs.Images.{Entry, Contents, trailer-length, least-image, distance, far-at, counts-at, contents, keys, restored, pair-place, no-ordinary-number, entry-checks, content-checks, Loaded, loaded, not-loaded, unless-refused, load-contents, load-trailer, load}
 use Rattle.graph.proofs.Refusals.{Passes, parts, passed-passes, number-lt}
 use Rattle.seats.proofs.EntryBytes.{Each, each-map, each-zip}
 use Rattle.seats.proofs.AscendingEntries.{Rising, ordered-rising, rising-ordered, none-each, each-none}
@@ -46,6 +46,11 @@ found l s e =
     otherwise true x e = absurd (let z : _≡_ {A = ℕ} 0 1 = cc in omega arith)
     otherwise false x e = e
 
+-- They have a trailer.
+pub loads-long : (l : List ℕ) (s : State) → load l ≡ loaded s → trailer-length ≤ length l
+unfolding distance
+loads-long l s e = let f = found l s e .fits in omega arith
+
 -- Contents that load: no check refuses, and the state is the one that they describe.
 pub record Accepted (c : Contents) (s : State) : Type 0 where
   pub entries : Passes (entry-checks c)
@@ -74,11 +79,26 @@ pub record Ordered (c : Contents) : Type 0 where
   pub seats-rise : Rising Entry.key 0 (c .seats)
   pub seats : Each (λ e. (e .key < seat-count) × T (not (eqb (e .value) empty)) × T (included (e .value) (keys (c .roles)))) (c .seats)
 
+-- A number that is not refused is that of an ordinary role, and back.
+pub role-number : (e : Entry) → (T (no-ordinary-number e) → ⊥) → (2 ≤ e .key) × (e .key < role-count)
+unfolding no-ordinary-number is-end
+role-number e f =
+    let h = number-lt (suc (e .key)) 2 (λ t. f (or-left (ltb (e .key) 2) (leb role-count (e .key)) t)) in
+    (omega arith, number-lt role-count (e .key) (λ t. f (or-right (ltb (e .key) 2) (leb role-count (e .key)) t)))
+
+pub number-role : (e : Entry) → (2 ≤ e .key) × (e .key < role-count) → T (no-ordinary-number e) → ⊥
+unfolding no-ordinary-number is-end
+number-role e p t = none (either (ltb (e .key) 2) (leb role-count (e .key)) t)
+  where
+    none : T (ltb (e .key) 2) ⊎ T (leb role-count (e .key)) → ⊥
+    none (inl t) = let a = p .0 in let b = ltb→lt (e .key) 2 t in omega arith
+    none (inr t) = let a = p .1 in let b = leb→le role-count (e .key) t in omega arith
+
 pub ordered : (c : Contents) → Passes (entry-checks c) → Ordered c
-unfolding Passes entry-checks no-ordinary-number is-end
+unfolding Passes entry-checks
 ordered c (no-roles, (no-pairs, (no-seats, (R, (C, (S, (lower, (none, (absent, _))))))))) = record {
   roles-rise = ordered-rising Entry.key (c .roles) R;
-  roles = each-map (c .roles) role (none-each no-ordinary-number (c .roles) no-roles);
+  roles = each-map (c .roles) role-number (none-each no-ordinary-number (c .roles) no-roles);
   conflicts-rise = ordered-rising pair-place (c .conflicts) C;
   conflicts =
       each-zip (c .conflicts)
@@ -86,27 +106,22 @@ ordered c (no-roles, (no-pairs, (no-seats, (R, (C, (S, (lower, (none, (absent, _
       (none-each _ (c .conflicts) no-pairs) (none-each _ (c .conflicts) lower);
   seats-rise = ordered-rising Entry.key (c .seats) S;
   seats =
-      each-zip (c .seats) (λ e x y. (number-lt 64 (e .key) x, y .0, y .1)) (none-each _ (c .seats) no-seats)
+      each-zip (c .seats) (λ e x y. (number-lt seat-count (e .key) x, y .0, y .1)) (none-each _ (c .seats) no-seats)
       (each-zip {R = λ e. T (not (eqb (e .value) empty)) × T (included (e .value) (keys (c .roles)))} (c .seats)
       (λ e x y. (not-T (eqb (e .value) empty) x, so (included (e .value) (keys (c .roles))) y)) (none-each _ (c .seats) none) (none-each _ (c .seats) absent));
 }
-  where
-    role : (e : Entry) → (T (ltb (e .key) 2 || leb 64 (e .key)) → ⊥) → (2 ≤ e .key) × (e .key < 64)
-    role e f =
-        let h = number-lt (suc (e .key)) 2 (λ t. f (or-left (ltb (e .key) 2) (leb 64 (e .key)) t)) in
-        (omega arith, number-lt 64 (e .key) (λ t. f (or-right (ltb (e .key) 2) (leb 64 (e .key)) t)))
 
 -- And back: where the entries are so, no check of them holds.
 pub ordered-passes : (c : Contents) → Ordered c → Passes (entry-checks c)
-unfolding Passes entry-checks no-ordinary-number is-end
+unfolding Passes entry-checks
 ordered-passes c o =
     let R = c .roles in
     let C = c .conflicts in
     let S = c .seats in
-    let roles = each-none no-ordinary-number R (each-map R (λ e p t. no-role e p (either (is-end (e .key)) (leb 64 (e .key)) t)) (o .roles)) in
+    let roles = each-none no-ordinary-number R (each-map R number-role (o .roles)) in
     let pairs =
     each-none (λ e. leb privilege-count (e .key) || leb privilege-count (e .value)) C (each-map C (λ e p t. no-pair e p (either (leb privilege-count (e .key)) (leb privilege-count (e .value)) t)) (o .conflicts)) in
-    let seats = each-none (λ e. leb 64 (e .key)) S (each-map S (λ e p t. let a = p .0 in let b = leb→le 64 (e .key) t in omega arith) (o .seats)) in
+    let seats = each-none (λ e. leb seat-count (e .key)) S (each-map S (λ e p t. let a = p .0 in let b = leb→le seat-count (e .key) t in omega arith) (o .seats)) in
     let lower = each-none (λ e. leb (e .value) (e .key)) C (each-map C (λ e p t. let a = p .0 in let b = leb→le (e .value) (e .key) t in omega arith) (o .conflicts)) in
     let some-role = each-none (λ e. eqb (e .value) empty) S (each-map S (λ e p. T-not (eqb (e .value) empty) (p .1)) (o .seats)) in
     let present-roles = each-none (λ e. not (included (e .value) (keys R))) S (each-map S (λ e p t. T-not (included (e .value) (keys R)) t (p .2)) (o .seats)) in (
@@ -126,10 +141,6 @@ ordered-passes c o =
       ),
     )
   where
-    no-role : (e : Entry) → (2 ≤ e .key) × (e .key < 64) → T (ltb (e .key) 2) ⊎ T (leb 64 (e .key)) → ⊥
-    no-role e p (inl t) = let a = p .0 in let b = ltb→lt (e .key) 2 t in omega arith
-    no-role e p (inr t) = let a = p .1 in let b = leb→le 64 (e .key) t in omega arith
-
     no-pair : (e : Entry) → Pair e → T (leb privilege-count (e .key)) ⊎ T (leb privilege-count (e .value)) → ⊥
     no-pair e p (inl t) = let a = p .0 in let c = p .1 in let b = leb→le privilege-count (e .key) t in omega arith
     no-pair e p (inr t) = let a = p .1 in let b = leb→le privilege-count (e .value) t in omega arith

@@ -11,7 +11,7 @@ use Rattle.graph.specs.Refusing.{Check, Verdict, passed, verdict}
 use Rattle.graph.specs.Refusing as refusing
 use Rattle.seats.specs.Seats.{State}
 use Rattle.lists.specs.Settling as settling
-use Rattle.seats.specs.Calls.{refused}
+use Rattle.seats.specs.Calls.{accepted, refused}
 use Rattle.seats.specs.Calls as calls
 use denote.Enum.Declared.{tagOf}
 use types.Run.{OneOf}
@@ -24,6 +24,10 @@ use Rattle.seats.specs.Images.{least-image, distance, Contents, far-at, 
 pub load-refused-keeps : (s : State) (l : List ℕ) (n p : ℕ) → load l ≡ not-loaded n p → load-over s l ≡ (refused n p, s)
 unfolding load-over settle-load
 load-refused-keeps s l n p e = rw e
+
+pub load-accepted-takes : (s : State) (l : List ℕ) (h : State) → load l ≡ loaded h → load-over s l ≡ (accepted, h)
+unfolding load-over settle-load
+load-accepted-takes s l h e = rw e
 
 -- What an accepted load gives does not depend on the state at hand.
 pub load-accepted-any : (t s : State) (l : List ℕ) {a : answers.the-data} {k : State} → (read-answer a, k) ≡ load-over t l → a ≡ answers.Accepted → (read-answer a, k) ≡ load-over s l

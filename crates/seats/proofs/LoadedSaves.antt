@@ -100,8 +100,9 @@ module _ (c : Contents) (o : Ordered c) where
   unfolding image
   image-restored = rw (top-back, roles-back, conflicts-back, seats-back)
 
-pub saves-back : (l : List ℕ) → Bytes l → (s : State) → load l ≡ loaded s → (length (image s) ≤ length l) × (drop (length l - length (image s)) l ≡ image s)
-saves-back l h s e =
+-- What loads has the length that its trailer says.
+pub image-far : (l : List ℕ) → Bytes l → (s : State) → load l ≡ loaded s → (image s ≡ drop (length l - far-at l (length l)) l) × (length (image s) ≡ far-at l (length l))
+image-far l h s e =
     let f = found l s e in
     let far = distance (counts-at l (length l)) in
     let i = length l - far in
@@ -109,5 +110,11 @@ saves-back l h s e =
     let c = contents l i (counts-at l (length l)) in
     let a = accepted c s (f .loads) in
     let q : image s ≡ drop i l = ap image (sym (a .same)) ∙ image-restored c (ordered c (a .entries)) ∙ parts-back l i h (omega arith) (f .far) in
-    let d : length (image s) ≡ far = ap length q ∙ length-drop i l ∙ omega arith in
+    (q ∙ ap (λ (d : ℕ). drop (length l - d) l) (sym (f .far)), ap length q ∙ length-drop i l ∙ omega (arith, f .far))
+
+pub saves-back : (l : List ℕ) → Bytes l → (s : State) → load l ≡ loaded s → (length (image s) ≤ length l) × (drop (length l - length (image s)) l ≡ image s)
+saves-back l h s e =
+    let f = found l s e .fits in
+    let g = found l s e .far in
+    let (q, d) = image-far l h s e in
     (omega arith, rw d (sym q))

@@ -15,11 +15,11 @@ use Rattle.sets.proofs.Tests.{both, passes, fails, equal-test, test-equal}
 use Rattle.sets.proofs.Laws.{member-empty, member-collect}
 use Rattle.sets.proofs.Walks.{lowest-in, lowest-below, lowest-of, member-next}
 use Rattle.graph.specs.Tables.{at}
-use Rattle.graph.specs.Graph.{Graph, ordinary, effective, privilege-count}
+use Rattle.graph.specs.Graph.{Graph, role-count, privilege-count, ordinary, effective}
 use Rattle.graph.specs.Conflicts.{conflict}
 use Rattle.graph.proofs.DrawingCode.{ordinary-member}
 use Rattle.seats.specs.Bytes.{bytes-of}
-use Rattle.seats.specs.Seats.{State}
+use Rattle.seats.specs.Seats.{State, seat-count}
 use Rattle.seats.specs.Written.{Written}
 use Rattle.seats.specs.Images.{Entry, listed-from, role-entries, conflict-entries, seat-entries, entry-bytes}
 use Rattle.seats.specs.ImageWork.{member-entries, table-entries, row-entries, pair-entries}
@@ -131,13 +131,13 @@ members-written v n entry z w = unwritten-none (rw (z, members-none v entry) at 
 -- ---- the roles and the seats
 pub roles-listed : (g : Graph) → table-entries (difference (g .roles) 3) (g .sets) ≡ role-entries g
 unfolding member-entries role-entries effective
-roles-listed g = listed-cong (λ r. member r (difference (g .roles) 3)) (ordinary g) (λ r. record { key = r; value = at (g .sets) r }) 0 64 (λ k a b. ordinary-member g k)
+roles-listed g = listed-cong (λ r. member r (difference (g .roles) 3)) (ordinary g) (λ r. record { key = r; value = at (g .sets) r }) 0 role-count (λ k a b. ordinary-member g k)
 
-pub seats-listed : (s : State) → table-entries (collect 64 (filled (s .seats))) (s .seats) ≡ seat-entries s
+pub seats-listed : (s : State) → table-entries (collect seat-count (filled (s .seats))) (s .seats) ≡ seat-entries s
 unfolding member-entries seat-entries
 seats-listed s =
-    listed-cong (λ i. member i (collect 64 (filled (s .seats)))) (filled (s .seats)) (λ i. record { key = i; value = at (s .seats) i }) 0 64
-    (λ k a b. member-collect k 64 (filled (s .seats)) ∙ ap (λ (t : Bool). t && filled (s .seats) k) (passes (ltb k 64) (lt→ltb k 64 (omega arith))))
+    listed-cong (λ i. member i (collect seat-count (filled (s .seats)))) (filled (s .seats)) (λ i. record { key = i; value = at (s .seats) i }) 0 seat-count
+    (λ k a b. member-collect k seat-count (filled (s .seats)) ∙ ap (λ (t : Bool). t && filled (s .seats) k) (passes (ltb k seat-count) (lt→ltb k seat-count (omega arith))))
 
 -- ---- the conflicts, row by row
 module _ (C : List ℕ) where

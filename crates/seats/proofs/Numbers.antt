@@ -75,3 +75,9 @@ bytes-front (suc n) (x ∷ l) h k =
 pub bytes-of-number : (n i : ℕ) (l : List ℕ) → Bytes l → i + n ≤ length l → bytes-of n (number-at n i l) ≡ take n (drop i l)
 bytes-of-number n i l h k =
     ap (bytes-of n) (number-from n i l) ∙ bytes-front n (drop i l) (bytes-drop i l h) (omega (arith, length-drop i l))
+
+-- A list whose every place has a byte is a list of bytes.
+pub places-bytes : (l : List ℕ) → ((i : ℕ) → getD l i 0 < 256) → Bytes l
+unfolding Bytes
+places-bytes [] h = tt
+places-bytes (x ∷ l) h = (h 0, places-bytes l (λ i. h (suc i)))

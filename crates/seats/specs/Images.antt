@@ -12,7 +12,7 @@ use Rattle.graph.specs.Conflicts.{conflict}
 use Rattle.graph.specs.Refusing.{Check, refuse, Verdict, passed, verdict, empty-role, twin-role, pair-role}
 use Rattle.graph.specs.Refusing as refusing
 use Rattle.seats.specs.Bytes.{bytes-of, number-at}
-use Rattle.seats.specs.Seats.{State, seat-count, pair-seat}
+use Rattle.seats.specs.Seats.{State, seat-count, fresh, pair-seat}
 use Rattle.seats.specs.Calls.{Answer, accepted, refused}
 
 -- ---- entries
@@ -59,19 +59,25 @@ contents-of s = record {
 
 -- ---- the bytes
 
--- How many bytes the value of an entry takes: a set 8, a privilege 1.
+-- How many bytes the value of an entry takes: a set of privileges 8, a set of roles 8, a privilege 1.
 abbrev pub set-bytes : ℕ
 set-bytes = 8
+
+abbrev pub role-set-bytes : ℕ
+role-set-bytes = 8
 
 abbrev pub privilege-bytes : ℕ
 privilege-bytes = 1
 
--- How many bytes an entry takes: one for its key, and its value's.
-abbrev pub set-entry : ℕ
-set-entry = 1 + set-bytes
+-- How many bytes an entry takes, of a role, a conflict or a seat: one for its key, and its value's.
+abbrev pub role-width : ℕ
+role-width = 1 + set-bytes
 
-abbrev pub privilege-entry : ℕ
-privilege-entry = 1 + privilege-bytes
+abbrev pub conflict-width : ℕ
+conflict-width = 1 + privilege-bytes
+
+abbrev pub seat-width : ℕ
+seat-width = 1 + role-set-bytes
 
 -- The bytes of entries whose values take n bytes each.
 unfoldable pub entry-bytes : ℕ → List Entry → List ℕ
@@ -98,7 +104,7 @@ counts-of c = record { roles = length (c .roles); seats = length (c .seats); con
 
 -- The distance from an image's end back to its start.
 unfoldable pub distance : Counts → ℕ
-distance n = least-image + set-entry * n .roles + set-entry * n .seats + privilege-entry * n .conflicts
+distance n = least-image + role-width * n .roles + seat-width * n .seats + conflict-width * n .conflicts
 
 -- The trailer: distance, roles, seats, conflicts.
 unfoldable pub trailer : Counts → List ℕ
@@ -110,7 +116,7 @@ parts c =
     bytes-of set-bytes (c .top)
     ++ (entry-bytes set-bytes (c .roles)
     ++ (entry-bytes privilege-bytes (c .conflicts)
-    ++ (entry-bytes set-bytes (c .seats) ++ trailer (counts-of c))))
+    ++ (entry-bytes role-set-bytes (c .seats) ++ trailer (counts-of c))))
 
 -- The image of a state.
 unfoldable pub image : State → List ℕ
@@ -123,10 +129,11 @@ unfoldable pub entries-at : ℕ → ℕ → ℕ → List ℕ → List Entry
 entries-at n i zero l = []
 entries-at n i (suc count) l = record { key = getD l i 0; value = number-at n (suc i) l } ∷ entries-at n (suc i + n) count l
 
--- The distance and the counts that the trailer before place `end` has.
+-- The distance that the trailer before place `end` has.
 unfoldable pub far-at : List ℕ → ℕ → ℕ
 far-at l end = number-at 4 (end - trailer-length) l
 
+-- The counts that it has.
 unfoldable pub counts-at : List ℕ → ℕ → Counts
 counts-at l end = record { roles = number-at 1 (end - 4) l; seats = number-at 1 (end - 3) l; conflicts = number-at 2 (end - 2) l }
 
@@ -135,8 +142,8 @@ unfoldable pub contents : List ℕ → ℕ → Counts → Contents
 contents l i n = record {
   top = number-at set-bytes i l;
   roles = entries-at set-bytes (i + set-bytes) (n .roles) l;
-  conflicts = entries-at privilege-bytes (i + set-bytes + set-entry * n .roles) (n .conflicts) l;
-  seats = entries-at set-bytes (i + set-bytes + set-entry * n .roles + privilege-entry * n .conflicts) (n .seats) l;
+  conflicts = entries-at privilege-bytes (i + set-bytes + role-width * n .roles) (n .conflicts) l;
+  seats = entries-at role-set-bytes (i + set-bytes + role-width * n .roles + conflict-width * n .conflicts) (n .seats) l;
 }
 
 -- The keys of the entries as a set.
@@ -244,6 +251,24 @@ unfoldable pub load : List ℕ → Loaded
 load l =
     let end = length l in
     cond (ltb end least-image) (not-loaded 6 0) (load-trailer l (far-at l end) (counts-at l end))
+
+-- The verdict on what is loaded, and the state; a refused image has a fresh one.
+unfoldable pub judged : Loaded → Verdict × State
+judged (loaded s) = (passed, s)
+judged (not-loaded n p) = (refusing.refused n p, fresh)
+
+-- How long the image of what was loaded is, or the refusal.
+pub data Measured : Type 0 where
+  measured : ℕ → Measured
+  unmeasured : ℕ → ℕ → Measured
+
+unfoldable pub measure-loaded : Loaded → Measured
+measure-loaded (loaded s) = measured (length (image s))
+measure-loaded (not-loaded n p) = unmeasured n p
+
+-- How long the image is that ends any bytes.
+unfoldable pub measure : List ℕ → Measured
+measure l = measure-loaded (load l)
 
 -- The answer to a load and the state it leaves; a refused load keeps the state at hand.
 unfoldable pub settle-load : State → Loaded → Answer × State

@@ -2,12 +2,13 @@
 use mathlib.Core.List.{List}
 use Prim.Native.Nat.{ℕ}
 use lib.ListN.{set}
-use Rattle.graph.specs.Reading.{read-set, graph-of, read-change}
+use Rattle.graph.specs.Refusing.{Verdict}
+use Rattle.graph.specs.Reading.{read-set, graph-of, read-verdict, read-change}
 use Rattle.seats.specs.Seats.{State}
 use Rattle.seats.specs.Calls.{Call, change, declare, lift, assign, unassign, ask, Answer, accepted, answered, refused, with-conflicts, with-seats}
 use Rattle.seats.specs.Records.{Decoded, malformed, well-formed}
 use Rattle.seats.specs.Bytes.{Filled, written, too-short}
-use Rattle.seats.specs.Images.{Counts}
+use Rattle.seats.specs.Images.{Counts, Measured, measured, unmeasured}
 use Rattle.seats.specs.declared.State as state-struct
 use Rattle.seats.specs.declared.Request as request-enum
 use Rattle.seats.specs.declared.Request.the-variants as requests
@@ -21,6 +22,9 @@ use Rattle.seats.specs.declared.Stored as stored-enum
 use Rattle.seats.specs.declared.Stored.the-variants as storings
 use Rattle.seats.specs.declared.Decision as decision-struct
 use Rattle.seats.specs.declared.Changed as changed-struct
+use Rattle.seats.specs.declared.ImageRead as image-struct
+use Rattle.seats.specs.declared.Measured as measured-enum
+use Rattle.seats.specs.declared.Measured.the-variants as measures
 use Rattle.seats.specs.declared.Counts as counts-struct
 use Rattle.seats.specs.declared.Fed as fed-struct
 use Rattle.seats.specs.declared.Filled as filled-enum
@@ -62,6 +66,15 @@ read-answer (answers.Refused r) = refused (r .number) (r .place)
 unfoldable pub read-filled : filled-enum.Filled → Filled
 read-filled (fillings.Written n) = written n
 read-filled (fillings.TooShort r) = too-short (r .number) (r .place)
+
+-- Whether an image is refused, and its state.
+abbrev pub read-image : image-struct.ImageRead → Verdict × State
+read-image r = (read-verdict (r .verdict), read-state (r .state))
+
+-- An image's length, or a refusal's number and place.
+unfoldable pub read-measured : measured-enum.Measured → Measured
+read-measured (measures.Length n) = measured n
+read-measured (measures.Refused r) = unmeasured (r .number) (r .place)
 
 -- How many roles, seats and conflicts an image has.
 abbrev pub read-counts : counts-struct.Counts → Counts

@@ -1,9 +1,12 @@
-// Little-endian numbers in bytes.
+// Little-endian numbers and sets in bytes.
 ghost use mathlib.Core.Path.{_≡_};
 ghost use Prim.Native.Nat.{_+_, _≤_, _<_};
 ghost use lib.ListN.{length};
+ghost use Rattle.graph.specs.Reading.{read-set};
 ghost use Rattle.seats.specs.Bytes.{number-at};
+ghost use Rattle.seats.specs.Images.{set-bytes};
 ghost use Rattle.seats.specs.Working.{quad-of};
+use graph::PrivilegeSet;
 
 // A byte as a word, with its bound.
 pub(crate) fn wide(x: u8) -> u64
@@ -37,4 +40,14 @@ pub(crate) fn word(bytes: &[u8], i: usize) -> u64
     ensures { λ r. ⌜ r ≡ number-at 8 i (now (bytes .entry)) ⌝ }
 {
     quad(bytes, i) + 4294967296 * quad(bytes, i + 4)
+}
+
+// The set of privileges whose bytes stand at place i.
+pub(crate) fn set_at(bytes: &[u8], i: usize) -> PrivilegeSet
+    requires { ⌜ i + set-bytes ≤ length (now bytes) ⌝ }
+    ensures { λ r. ⌜ read-set r ≡ number-at set-bytes i (now (bytes .entry)) ⌝ }
+{
+    PrivilegeSet {
+        word: word(bytes, i),
+    }
 }

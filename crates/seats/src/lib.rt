@@ -21,6 +21,7 @@ use graph::ConflictEntry;
 use graph::Privilege;
 use graph::Refusal;
 use graph::Role;
+use graph::Verdict;
 
 // A seat's number.
 pub struct Seat(pub u8);
@@ -102,6 +103,18 @@ pub struct Taken {
 pub struct Stepped {
     pub answer: Answer,
     pub state: State,
+}
+
+// What the image that ends any bytes comes to: whether it is refused, and its state; a refused one has a fresh state.
+pub struct ImageRead {
+    pub verdict: Verdict,
+    pub state: State,
+}
+
+// How long the image is that ends any bytes, or the refusal of loading it.
+pub enum Measured {
+    Length(usize),
+    Refused(Refusal),
 }
 
 // What loading answers, and the state after it.

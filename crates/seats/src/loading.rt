@@ -1,49 +1,63 @@
 // Loading: the state of the image that ends any bytes, or the refusal of it.
 ghost use mathlib.Core.Path.{_≡_};
-ghost use mathlib.Core.Bool.{not, cond, _&&_};
-ghost use Prim.Native.Nat.{_+_, _*_, _≤_, _<_};
+ghost use mathlib.Core.Bool.{not, cond, false, _&&_, _||_};
+ghost use Prim.Native.Nat.{ℕ, _+_, _*_, _≤_};
 ghost use lib.ListN.{length};
-ghost use lib.Dec.{leb};
+ghost use lib.Dec.{eqb, leb, ltb};
 ghost use Rattle.sets.specs.Counting.{lowest};
-ghost use Rattle.sets.specs.Sets.{included};
-ghost use Rattle.graph.specs.Graph.{role-count, max-role, ordinary, effective};
+ghost use Rattle.sets.specs.Sets.{empty, included};
+ghost use Rattle.graph.specs.Graph.{role-count, privilege-count, max-role, is-end, ordinary, effective};
 ghost use Rattle.graph.specs.Refusing.{passed, verdict};
 ghost use Rattle.graph.specs.Refusing as refusing;
-ghost use Rattle.graph.specs.Reading.{drawn-from};
-ghost use Rattle.seats.specs.Calls.{refused};
-ghost use Rattle.seats.specs.Images.{set-bytes, privilege-bytes, set-entry, privilege-entry, distance, entries-at, contents, pair-place, content-checks};
-ghost use Rattle.seats.specs.Reading.{state-of, read-answer, read-state, read-counts};
+ghost use Rattle.graph.specs.Reading.{sets-in, drawn-from};
+ghost use Rattle.seats.specs.Seats.{seat-count};
+ghost use Rattle.seats.specs.Images.{set-bytes, role-set-bytes, privilege-bytes, role-width, conflict-width, seat-width, distance, entries-at, contents, content-checks, trailer-length, far-at, load, not-loaded, judged, measure};
+ghost use Rattle.seats.specs.Reading.{state-of, read-image, read-measured, read-state, read-counts};
 ghost use Rattle.seats.specs.Promises.{LoadPromise};
-ghost use Rattle.seats.specs.ImageWork.{entry-of, numbered, paired, TableRead, PairsRead, ContentsRead};
+ghost use Rattle.seats.specs.ImageWork.{Roles, Conflicts, Seats, entry-at, value-bytes, part-width, entry-place, entry-passes, store-entries, table-in, EntryTaken, EntriesRead, ContentsRead};
 use crate::Answer;
 use crate::Counts;
+use crate::ImageRead;
 use crate::Loaded;
+use crate::Measured;
 use crate::State;
-use crate::answers::refusal;
 use crate::endian::quad;
+use crate::endian::set_at;
+use crate::endian::wide;
 use crate::endian::word;
+use crate::image::CONFLICT_ENTRY;
 use crate::image::LEAST;
-use crate::image::PRIVILEGE_ENTRY;
+use crate::image::Part;
+use crate::image::ROLE_ENTRY;
 use crate::image::SET;
-use crate::image::SET_ENTRY;
 use crate::image::TRAILER;
 use crate::image::counts_at;
 use crate::image::distance;
-use crate::image::only;
+use crate::image::width;
 use crate::searches::pair_seat;
+use crate::tape::fresh;
+use graph::Privilege;
+use graph::Refusal;
+use graph::Verdict;
 use graph::drawing::ordinary_roles;
 use graph::privileges;
 use graph::searching::empty_role;
 use graph::searching::pair_role;
 use graph::searching::twin_role;
 use graph::table::entry;
+use graph::table::store;
+use graph::table::store_roles;
 
-// The set of all roles or privileges.
-const ALL: u64 = 0xffff_ffff_ffff_ffff;
+// An entry as it was read: whether it passes, its place in the order of its part, and the set of its role where it is a role's.
+struct EntryRead {
+    sound: bool,
+    place: usize,
+    role: u64,
+}
 
-// The keys of a table that was read, and whether none of its entries is refused.
-struct Keys {
-    set: u64,
+// The roles of the entries that were read, and whether none of them is refused.
+struct PartRead {
+    roles: u64,
     sound: bool,
 }
 
@@ -53,60 +67,55 @@ struct Contents {
     sound: bool,
 }
 
-// Whether a table's key is from low on and a number below 64, and its set is from least on and inside what is allowed.
-fn admits(low: u8, least: u64, allowed: u64, key: u8, set: u64) -> bool
-    ensures { λ r. ⌜ r ≡ (leb low key && numbered least allowed (entry-of key set)) ⌝ }
+// An entry that is refused.
+fn refused_at(place: usize) -> EntryRead
+    ensures { λ r. ⌜ (r .sound ≡ false) × (r .place ≡ place) ⌝ }
 {
-    if key < low {
-        return false;
+    EntryRead {
+        sound: false,
+        place,
+        role: 0,
     }
-    if 64 <= key {
-        return false;
-    }
-    if set < least {
-        return false;
-    }
-    sets::included(set, allowed)
 }
 
-// Stores count entries, strictly ascending from low on, in a table: the roles or the seats.
-fn read_table(
-    bytes: &[u8],
-    at: usize,
-    count: usize,
-    low: u8,
-    least: u64,
-    allowed: u64,
-    table: &mut [u64; 64],
-) -> Keys
-    requires { ⌜ at + set-entry * count ≤ length (now bytes) ⌝ }
-    ensures { λ r. ⌜ TableRead (entries-at set-bytes at count (now (bytes .entry))) low least allowed (now (table .entry)) (now (table .exit)) (r .set) (r .sound) ⌝ }
+// Whether a number from low on is that of an ordinary role.
+fn admits_role(low: usize, role: usize) -> bool
+    ensures { λ r. ⌜ r ≡ (leb low role && not (is-end role || leb role-count role)) ⌝ }
 {
-    let mut set: u64 = 0;
-    let mut floor = low;
-    let mut place = at;
-    let mut left = count;
-    while left != 0 {
-        let key = bytes[place];
-        let value = word(bytes, place + 1);
-        if !admits(floor, least, allowed, key, value) {
-            return Keys { set, sound: false };
-        }
-        let k = key as usize;
-        set = sets::union(set, only(k));
-        table[k] = value;
-        floor = key + 1;
-        place += SET_ENTRY;
-        left -= 1;
+    if role < low {
+        return false;
     }
-    Keys { set, sound: true }
+    if role < 2 {
+        return false;
+    }
+    if 64 <= role {
+        return false;
+    }
+    true
 }
 
-// Whether a conflict's place is from low on, its first privilege is the lower, and both are numbers below 64.
-fn admits_pair(low: usize, lower: u8, higher: u8) -> bool
-    ensures { λ r. ⌜ r ≡ (leb low (pair-place (entry-of lower higher)) && paired (entry-of lower higher)) ⌝ }
+// Stores the set of a role.
+fn read_role(bytes: &[u8], at: usize, low: usize, table: &mut [u64]) -> EntryRead
+    requires { ⌜ at + role-width ≤ length (now bytes) ⌝ }
+    ensures { λ r. ⌜ ((present : ℕ) → EntryTaken Roles present low (entry-at set-bytes at (now (bytes .entry))) (sets-in (now (table .entry))) (sets-in (now (table .exit))) (r .sound) (r .place) (r .role)) ⌝ }
 {
-    if 256 * (lower as usize) + (higher as usize) < low {
+    let role = wide(bytes[at]) as usize;
+    if !admits_role(low, role) {
+        return refused_at(role);
+    }
+    store(table, role, set_at(bytes, at + 1));
+    EntryRead {
+        sound: true,
+        place: role,
+        role: sets::insert(0, role),
+    }
+}
+
+// Whether a conflict's place is from low on, its first privilege is the lower, and both are privileges.
+fn admits_pair(low: usize, place: usize, lower: usize, higher: usize) -> bool
+    ensures { λ r. ⌜ r ≡ (leb low place && (ltb lower higher && ltb higher privilege-count)) ⌝ }
+{
+    if place < low {
         return false;
     }
     if higher <= lower {
@@ -115,28 +124,114 @@ fn admits_pair(low: usize, lower: u8, higher: u8) -> bool
     higher < 64
 }
 
-// Puts count conflicts, strictly ascending, into a table; gives whether none of them is refused.
-fn read_pairs(bytes: &[u8], at: usize, count: usize, table: &mut [u64; 64]) -> bool
-    requires { ⌜ at + privilege-entry * count ≤ length (now bytes) ⌝ }
-    ensures { λ r. ⌜ PairsRead (entries-at privilege-bytes at count (now (bytes .entry))) (now (table .entry)) (now (table .exit)) r ⌝ }
+// Puts a conflict under its lower privilege.
+fn read_conflict(bytes: &[u8], at: usize, low: usize, table: &mut [u64]) -> EntryRead
+    requires { ⌜ at + conflict-width ≤ length (now bytes) ⌝ }
+    ensures { λ r. ⌜ ((present : ℕ) → EntryTaken Conflicts present low (entry-at privilege-bytes at (now (bytes .entry))) (sets-in (now (table .entry))) (sets-in (now (table .exit))) (r .sound) (r .place) (r .role)) ⌝ }
 {
-    let mut floor: usize = 0;
+    let lower = wide(bytes[at]) as usize;
+    let higher = wide(bytes[at + 1]) as usize;
+    let place = 256 * lower + higher;
+    if !admits_pair(low, place, lower, higher) {
+        return refused_at(place);
+    }
+    let row = entry(table, lower);
+    store(
+        table,
+        lower,
+        privileges::insert(row, Privilege(bytes[at + 1])),
+    );
+    EntryRead {
+        sound: true,
+        place,
+        role: 0,
+    }
+}
+
+// Whether a number from low on is a seat's, and its roles are some of those present.
+fn admits_seat(low: usize, seat: usize, roles: u64, present: u64) -> bool
+    ensures { λ r. ⌜ r ≡ (leb low seat && (ltb seat seat-count && (not (eqb roles empty) && included roles present))) ⌝ }
+{
+    if seat < low {
+        return false;
+    }
+    if 64 <= seat {
+        return false;
+    }
+    if roles == 0 {
+        return false;
+    }
+    sets::included(roles, present)
+}
+
+// Stores the roles of a seat.
+fn read_seat(bytes: &[u8], at: usize, low: usize, present: u64, table: &mut [u64]) -> EntryRead
+    requires { ⌜ at + seat-width ≤ length (now bytes) ⌝ }
+    ensures { λ r. ⌜ EntryTaken Seats present low (entry-at role-set-bytes at (now (bytes .entry))) (now (table .entry)) (now (table .exit)) (r .sound) (r .place) (r .role) ⌝ }
+{
+    let seat = wide(bytes[at]) as usize;
+    let roles = word(bytes, at + 1);
+    if !admits_seat(low, seat, roles, present) {
+        return refused_at(seat);
+    }
+    store_roles(table, seat, roles);
+    EntryRead {
+        sound: true,
+        place: seat,
+        role: 0,
+    }
+}
+
+// Tests an entry whose place is to be from low on, and stores what passes.
+fn read_entry(
+    part: Part,
+    bytes: &[u8],
+    at: usize,
+    low: usize,
+    present: u64,
+    table: &mut [u64],
+) -> EntryRead
+    requires { ⌜ at + part-width part ≤ length (now bytes) ⌝ }
+    ensures { λ r. ⌜ EntryTaken part present low (entry-at (value-bytes part) at (now (bytes .entry))) (table-in part (now (table .entry))) (table-in part (now (table .exit))) (r .sound) (r .place) (r .role) ⌝ }
+{
+    match part {
+        Part::Roles => read_role(bytes, at, low, table),
+        Part::Conflicts => read_conflict(bytes, at, low, table),
+        Part::Seats => read_seat(bytes, at, low, present, table),
+    }
+}
+
+// Stores count entries of a part, strictly ascending, in its table; the roles of a seat must be among those present.
+fn read_entries(
+    part: Part,
+    bytes: &[u8],
+    at: usize,
+    count: usize,
+    present: u64,
+    table: &mut [u64],
+) -> PartRead
+    requires { ⌜ at + part-width part * count ≤ length (now bytes) ⌝ }
+    ensures { λ r. ⌜ EntriesRead (entry-place part) (entry-passes part present) (store-entries part) (entries-at (value-bytes part) at count (now (bytes .entry))) (empty, table-in part (now (table .entry))) (r .roles, table-in part (now (table .exit))) (r .sound) ⌝ }
+{
+    let step = width(part);
+    let mut roles: u64 = 0;
+    let mut low: usize = 0;
     let mut place = at;
     let mut left = count;
     while left != 0 {
-        let lower = bytes[place];
-        let higher = bytes[place + 1];
-        if !admits_pair(floor, lower, higher) {
-            return false;
+        let entry = read_entry(part, bytes, place, low, present, table);
+        if !entry.sound {
+            return PartRead {
+                roles,
+                sound: false,
+            };
         }
-        let a = lower as usize;
-        let b = higher as usize;
-        table[a] = sets::union(table[a], only(b));
-        floor = 256 * a + b + 1;
-        place += PRIVILEGE_ENTRY;
+        roles = sets::union(roles, entry.role);
+        low = entry.place + 1;
+        place += step;
         left -= 1;
     }
-    true
+    PartRead { roles, sound: true }
 }
 
 // The contents at a place, so many.
@@ -145,16 +240,30 @@ fn read_contents(bytes: &[u8], at: usize, counts: Counts) -> Contents
     ensures { λ x. ⌜ ContentsRead (contents (now (bytes .entry)) at (read-counts counts)) (read-state (x .state)) (x .sound) ⌝ }
 {
     let roles_at = at + SET;
-    let conflicts_at = roles_at + SET_ENTRY * counts.roles;
-    let seats_at = conflicts_at + PRIVILEGE_ENTRY * counts.conflicts;
+    let conflicts_at = roles_at + ROLE_ENTRY * counts.roles;
+    let seats_at = conflicts_at + CONFLICT_ENTRY * counts.conflicts;
     let mut sets = [0u64; 64];
-    sets[1] = word(bytes, at);
-    let roles = read_table(bytes, roles_at, counts.roles, 2, 0, ALL, &mut sets);
+    store(&mut sets, 1, set_at(bytes, at));
+    let roles = read_entries(Part::Roles, bytes, roles_at, counts.roles, 0, &mut sets);
     let mut conflicts = [0u64; 64];
-    let pairs = read_pairs(bytes, conflicts_at, counts.conflicts, &mut conflicts);
+    let pairs = read_entries(
+        Part::Conflicts,
+        bytes,
+        conflicts_at,
+        counts.conflicts,
+        0,
+        &mut conflicts,
+    );
     let mut seats = [0u64; 64];
-    let present = roles.set;
-    let seated = read_table(bytes, seats_at, counts.seats, 0, 1, present, &mut seats);
+    let present = roles.roles;
+    let seated = read_entries(
+        Part::Seats,
+        bytes,
+        seats_at,
+        counts.seats,
+        present,
+        &mut seats,
+    );
     let state = State {
         roles: present,
         sets,
@@ -163,7 +272,7 @@ fn read_contents(bytes: &[u8], at: usize, counts: Counts) -> Contents
     };
     Contents {
         state,
-        sound: roles.sound & pairs & seated.sound,
+        sound: roles.sound & pairs.sound & seated.sound,
     }
 }
 
@@ -205,42 +314,82 @@ fn is_sound<'a>(roles: u64, sets: &'a [u64], conflicts: &'a [u64], seats: &'a [u
     true
 }
 
-// A refusal that keeps the state at hand.
-fn refuse(state: State, number: u8) -> Loaded
-    ensures { λ r. ⌜ (read-answer (r .answer) ≡ refused number 0) × (read-state (r .state) ≡ read-state state) ⌝ }
+// The distance in the trailer.
+fn far_back(bytes: &[u8]) -> usize
+    requires { ⌜ trailer-length ≤ length (now bytes) ⌝ }
+    ensures { λ r. ⌜ r ≡ far-at (now (bytes .entry)) (length (now (bytes .entry))) ⌝ }
 {
-    let answer = refusal(number, 0);
-    Loaded { answer, state }
+    quad(bytes, bytes.len() - TRAILER) as usize
+}
+
+// A refusal of an image, at place 0.
+fn refuse(number: u8) -> ImageRead
+    ensures { λ r. ⌜ read-image r ≡ judged (not-loaded number 0) ⌝ }
+{
+    ImageRead {
+        verdict: Verdict::Refused(Refusal { number, place: 0 }),
+        state: fresh(),
+    }
+}
+
+// The state of the image that ends the bytes, or the refusal of it.
+pub fn read_image(bytes: &[u8]) -> ImageRead
+    ensures { λ r. ⌜ read-image r ≡ judged (load (now (bytes .entry))) ⌝ }
+{
+    let end = bytes.len();
+    if end < LEAST {
+        return refuse(6);
+    }
+    let far = far_back(bytes);
+    let counts = counts_at(bytes, end);
+    if far != distance(counts) {
+        return refuse(6);
+    }
+    if end < far {
+        return refuse(6);
+    }
+    let found = read_contents(bytes, end - far, counts);
+    if !found.sound {
+        return refuse(7);
+    }
+    let state = found.state;
+    let roles = state.roles;
+    if !is_sound(roles, &state.sets, &state.conflicts, &state.seats) {
+        return refuse(8);
+    }
+    ImageRead {
+        verdict: Verdict::Passed,
+        state,
+    }
 }
 
 // The state of the image that ends the bytes; a refused load keeps the state at hand.
 pub fn load(state: State, bytes: &[u8]) -> Loaded
     ensures { λ r. ⌜ LoadPromise state (now (bytes .entry)) (r .answer) (r .state) ⌝ }
 {
-    let end = bytes.len();
-    if end < LEAST {
-        return refuse(state, 6);
+    let image = read_image(bytes);
+    let verdict = image.verdict;
+    let next = image.state;
+    match verdict {
+        Verdict::Passed => Loaded {
+            answer: Answer::Accepted,
+            state: next,
+        },
+        Verdict::Refused(refusal) => Loaded {
+            answer: Answer::Refused(refusal),
+            state,
+        },
     }
-    let far = quad(bytes, end - TRAILER) as usize;
-    let counts = counts_at(bytes, end);
-    if far != distance(counts) {
-        return refuse(state, 6);
-    }
-    if end < far {
-        return refuse(state, 6);
-    }
-    let found = read_contents(bytes, end - far, counts);
-    if !found.sound {
-        return refuse(state, 7);
-    }
-    let next = found.state;
-    let roles = next.roles;
-    if !is_sound(roles, &next.sets, &next.conflicts, &next.seats) {
-        return refuse(state, 8);
-    }
-    let answer = Answer::Accepted;
-    Loaded {
-        answer,
-        state: next,
+}
+
+// How long the image is that ends the bytes, or the refusal of loading it.
+pub fn image_length(bytes: &[u8]) -> Measured
+    ensures { λ r. ⌜ read-measured r ≡ measure (now (bytes .entry)) ⌝ }
+{
+    let image = read_image(bytes);
+    let verdict = image.verdict;
+    match verdict {
+        Verdict::Passed => Measured::Length(far_back(bytes)),
+        Verdict::Refused(refusal) => Measured::Refused(refusal),
     }
 }

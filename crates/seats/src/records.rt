@@ -5,7 +5,7 @@ ghost use mathlib.Core.List.{[], _∷_};
 ghost use Prim.Native.Nat.{_≤_};
 ghost use lib.ListN.{length, getD};
 ghost use lib.Dec.{leb};
-ghost use Rattle.graph.specs.Reading.{read-change};
+ghost use Rattle.graph.specs.Reading.{read-set, read-change};
 ghost use Rattle.seats.specs.Bytes.{number-at};
 ghost use Rattle.seats.specs.Calls.{change};
 ghost use Rattle.seats.specs.Records.{malformed, well-formed, all-empty, kinds, decode};
@@ -17,12 +17,14 @@ use crate::Request;
 use crate::Seat;
 use crate::Step;
 use crate::endian::quad;
+use crate::endian::set_at;
 use crate::endian::wide;
 use crate::endian::word;
 use graph::Change;
 use graph::Privilege;
 use graph::PrivilegeSet;
 use graph::Role;
+use graph::privileges;
 
 // How many bytes a record has.
 pub const RECORD: usize = 32;
@@ -35,11 +37,11 @@ fn spare(bytes: &[u8]) -> u64
     quad(bytes, 3) + 4294967296 * wide(bytes[7])
 }
 
-// Whether three sets are empty.
-fn unused(x: u64, y: u64, z: u64) -> bool
-    ensures { λ r. ⌜ r ≡ all-empty (x ∷ y ∷ z ∷ []) ⌝ }
+// Whether a set of privileges and two sets of roles are empty.
+fn unused(x: PrivilegeSet, y: u64, z: u64) -> bool
+    ensures { λ r. ⌜ r ≡ all-empty (read-set x ∷ y ∷ z ∷ []) ⌝ }
 {
-    if x != 0 {
+    if !privileges::is_empty(x) {
         return false;
     }
     if y != 0 {
@@ -77,14 +79,18 @@ fn decoded_request(b: u8, rest: bool, request: Request) -> Decoded
 }
 
 // What a kind makes of the fields beside it.
-fn named(kind: u8, a: u8, b: u8, x: u64, y: u64, z: u64) -> Decoded
-    ensures { λ r. ⌜ read-decoded r ≡ getD (malformed ∷ kinds (fields-of a b x y z)) kind malformed ⌝ }
+fn named(kind: u8, a: u8, b: u8, own: PrivilegeSet, y: u64, z: u64) -> Decoded
+    ensures { λ r. ⌜ read-decoded r ≡ getD (malformed ∷ kinds (fields-of a b (read-set own) y z)) kind malformed ⌝ }
 {
-    let own = PrivilegeSet { word: x };
-    let none = unused(x, y, z);
+    let none = unused(own, y, z);
     match kind {
         1 => decoded_change(b, 0, true, Change::AddByPlace(Role(a), own, y, z)),
-        2 => decoded_change(b, 0, unused(0, y, z), Change::AddByPrivileges(Role(a), own)),
+        2 => decoded_change(
+            b,
+            0,
+            unused(privileges::empty(), y, z),
+            Change::AddByPrivileges(Role(a), own),
+        ),
         3 => decoded_change(b, 1, none, Change::RemoveRole(Role(a), b)),
         4 => decoded_change(b, 255, none, Change::Grant(Role(a), Privilege(b))),
         5 => decoded_change(b, 255, none, Change::Withdraw(Role(a), Privilege(b))),
@@ -113,7 +119,7 @@ pub fn decode(bytes: &[u8]) -> Decoded
         bytes[0],
         bytes[1],
         bytes[2],
-        word(bytes, 8),
+        set_at(bytes, 8),
         word(bytes, 16),
         word(bytes, 24),
     )

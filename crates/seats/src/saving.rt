@@ -9,85 +9,90 @@ ghost use Rattle.sets.specs.Sets.{empty, size, collect};
 ghost use Rattle.graph.specs.Tables.{at};
 ghost use Rattle.graph.specs.Graph.{privilege-count};
 ghost use Rattle.graph.specs.Conflicts.{conflict};
-ghost use Rattle.graph.specs.Reading.{sets-in};
+ghost use Rattle.graph.specs.Reading.{read-set, sets-in};
 ghost use Rattle.seats.specs.Seats.{seat-count};
 ghost use Rattle.seats.specs.Bytes.{bytes-of};
 ghost use Rattle.seats.specs.Written.{Written};
-ghost use Rattle.seats.specs.Images.{set-bytes, privilege-bytes, entry-bytes, trailer-length, trailer};
+ghost use Rattle.seats.specs.Images.{privilege-bytes, entry-bytes, trailer-length, trailer};
 ghost use Rattle.seats.specs.Saving.{save};
 ghost use Rattle.seats.specs.Reading.{state-of, read-counts, read-filled};
-ghost use Rattle.seats.specs.ImageWork.{Small, table-entries, row-entries, pair-entries};
+ghost use Rattle.seats.specs.ImageWork.{Small, value-bytes, part-width, value-of, part-entries, row-entries, pair-entries};
 use crate::Counts;
 use crate::Filled;
 use crate::image::PRIVILEGE;
-use crate::image::SET;
+use crate::image::Part;
+use crate::image::ROLE_SET;
 use crate::image::distance;
-use crate::image::only;
 use crate::writing::put_byte;
 use crate::writing::put_number;
+use crate::writing::put_set;
 use crate::writing::too_short;
+use graph::Privilege;
+use graph::PrivilegeSet;
 use graph::drawing::ordinary_roles;
+use graph::privileges;
+use graph::table::entry;
 use graph::table::roles_at;
 
-// An entry: its key, and the n bytes of its value.
-fn put_entry(buffer: &mut [u8], at: usize, n: usize, key: u8, value: u64) -> usize
-    requires { ⌜ at + 1 + n ≤ length (now buffer) ⌝ }
-    ensures { λ r. ⌜ Written (now (buffer .entry)) at (key ∷ bytes-of n value) (now (buffer .exit)) r ⌝ }
+// An entry of a part: its key, then what number n has in the part's table, or for a conflict the privilege n.
+fn put_entry(buffer: &mut [u8], at: usize, part: Part, key: u8, n: usize, table: &[u64]) -> usize
+    requires { ⌜ at + part-width part ≤ length (now buffer) ⌝ }
+    ensures { λ r. ⌜ Written (now (buffer .entry)) at (key ∷ bytes-of (value-bytes part) (value-of part (now (table .entry)) n)) (now (buffer .exit)) r ⌝ }
 {
     let value_at = put_byte(buffer, at, key);
-    put_number(buffer, value_at, n, value)
+    match part {
+        Part::Roles => put_set(buffer, value_at, entry(table, n)),
+        Part::Conflicts => put_number(buffer, value_at, PRIVILEGE, n as u64),
+        Part::Seats => put_number(buffer, value_at, ROLE_SET, roles_at(table, n)),
+    }
 }
 
-// Each of the keys with its entry of a table: the roles or the seats.
-fn put_table(buffer: &mut [u8], at: usize, keys: u64, table: &[u64]) -> usize
-    requires { ⌜ at + length (entry-bytes set-bytes (table-entries keys (now table))) ≤ length (now buffer) ⌝ }
-    ensures { λ r. ⌜ Written (now (buffer .entry)) at (entry-bytes set-bytes (table-entries keys (now (table .entry)))) (now (buffer .exit)) r ⌝ }
+// The entries of the keys in a part's table, ascending: the roles or the seats.
+fn put_table(buffer: &mut [u8], at: usize, part: Part, keys: u64, table: &[u64]) -> usize
+    requires { ⌜ at + length (entry-bytes (value-bytes part) (part-entries part keys (now table))) ≤ length (now buffer) ⌝ }
+    ensures { λ r. ⌜ Written (now (buffer .entry)) at (entry-bytes (value-bytes part) (part-entries part keys (now (table .entry)))) (now (buffer .exit)) r ⌝ }
 {
     let mut place = at;
     let mut rest = keys;
     while rest != 0 {
         let k = sets::lowest_member(rest);
-        let i = k as usize;
-        place = put_entry(buffer, place, SET, k as u8, roles_at(table, i));
+        place = put_entry(buffer, place, part, k as u8, k as usize, table);
         rest = sets::without_lowest(rest);
     }
     place
 }
 
 // The conflicts of a lower privilege with higher ones.
-fn put_row(buffer: &mut [u8], at: usize, lower: u8, row: u64) -> usize
-    requires { ⌜ at + length (entry-bytes privilege-bytes (row-entries lower row)) ≤ length (now buffer) ⌝ }
-    ensures { λ r. ⌜ Written (now (buffer .entry)) at (entry-bytes privilege-bytes (row-entries lower row)) (now (buffer .exit)) r ⌝ }
+fn put_row(buffer: &mut [u8], at: usize, lower: u8, row: PrivilegeSet) -> usize
+    requires { ⌜ at + length (entry-bytes privilege-bytes (row-entries lower (read-set row))) ≤ length (now buffer) ⌝ }
+    ensures { λ r. ⌜ Written (now (buffer .entry)) at (entry-bytes privilege-bytes (row-entries lower (read-set row))) (now (buffer .exit)) r ⌝ }
 {
     let mut place = at;
-    let mut rest = row;
-    while rest != 0 {
-        let higher = sets::lowest_member(rest) as u64;
-        place = put_entry(buffer, place, PRIVILEGE, lower, higher);
-        rest = sets::without_lowest(rest);
+    let mut rest = privileges::union(row, privileges::empty());
+    while !privileges::is_empty(rest) {
+        let higher = privileges::lowest_member(rest) as usize;
+        place = put_entry(buffer, place, Part::Conflicts, lower, higher, &[]);
+        rest = privileges::without_lowest(rest);
     }
     place
 }
 
 // The higher privileges in conflict with a lower one.
-fn row(conflicts: &[u64], lower: usize) -> u64
-    requires { ⌜ lower < privilege-count ⌝ }
-    ensures { λ r. ⌜ r ≡ collect privilege-count (conflict (sets-in (now (conflicts .entry))) lower) ⌝ }
+fn row(conflicts: &[u64], lower: u8) -> PrivilegeSet
+    ensures { λ r. ⌜ read-set r ≡ collect privilege-count (conflict (sets-in (now (conflicts .entry))) lower) ⌝ }
 {
-    let own = only(lower);
-    let not_higher = sets::union(own, own - 1);
-    sets::difference(roles_at(conflicts, lower), not_higher)
+    privileges::above(entry(conflicts, lower as usize), Privilege(lower))
 }
 
 // The conflicts of one row more counted; most rows of an image are empty and cost no count.
-fn counted(n: usize, row: u64) -> usize
+fn counted(n: usize, row: PrivilegeSet) -> usize
     requires { ⌜ n ≤ 2016 ⌝ }
-    ensures { λ r. ⌜ r ≡ n + size privilege-count row ⌝ }
+    ensures { λ r. ⌜ r ≡ n + size privilege-count (read-set row) ⌝ }
 {
-    if row == 0 {
+    if privileges::is_empty(row) {
         n
     } else {
-        n + sets::size(row) as usize
+        n + privileges::size(row) as usize
     }
 }
 
@@ -96,7 +101,7 @@ fn count_conflicts(conflicts: &[u64]) -> usize
     ensures { λ r. ⌜ (r ≡ length (pair-entries (sets-in (now (conflicts .entry))))) × (r ≤ 2016) ⌝ }
 {
     let mut n: usize = 0;
-    for lower in 0..64usize {
+    for lower in 0..64u8 {
         n = counted(n, row(conflicts, lower));
     }
     n
@@ -109,8 +114,7 @@ fn put_conflicts(buffer: &mut [u8], at: usize, conflicts: &[u64]) -> usize
 {
     let mut place = at;
     for lower in 0..64u8 {
-        let higher = row(conflicts, lower as usize);
-        place = put_row(buffer, place, lower, higher);
+        place = put_row(buffer, place, lower, row(conflicts, lower));
     }
     place
 }
@@ -121,7 +125,7 @@ fn occupied(seats: &[u64]) -> u64
 {
     let mut found: u64 = 0;
     for i in 0..64usize {
-        let one = sets::when(roles_at(seats, i) != 0, only(i));
+        let one = sets::when(roles_at(seats, i) != 0, sets::insert(0, i));
         found = sets::union(one, found);
     }
     found
@@ -163,10 +167,10 @@ pub fn save<'a>(
     if buffer.len() < length {
         return too_short(9);
     }
-    let roles_at = put_number(buffer, 0, SET, roles_at(sets, 1));
-    let conflicts_at = put_table(buffer, roles_at, ordinary, sets);
+    let roles_at = put_set(buffer, 0, entry(sets, 1));
+    let conflicts_at = put_table(buffer, roles_at, Part::Roles, ordinary, sets);
     let seats_at = put_conflicts(buffer, conflicts_at, conflicts);
-    let trailer_at = put_table(buffer, seats_at, taken, seats);
+    let trailer_at = put_table(buffer, seats_at, Part::Seats, taken, seats);
     put_trailer(buffer, trailer_at, counts);
     Filled::Written(length)
 }

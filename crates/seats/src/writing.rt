@@ -1,13 +1,17 @@
-// What is written into a lent buffer: a byte, a number's bytes and its base-ten digits, each at a place; what comes next goes to the place behind.
+// What is written into a lent buffer: a byte, a number's bytes and its base-ten digits, a set's bytes, each at a place; what comes next goes to the place behind.
 ghost use mathlib.Core.Path.{_≡_};
 ghost use mathlib.Core.List.{[], _∷_};
 ghost use Prim.Native.Nat.{_+_, _≤_, _<_};
 ghost use lib.ListN.{length};
+ghost use Rattle.graph.specs.Reading.{read-set};
 ghost use Rattle.seats.specs.Bytes.{bytes-of, too-short};
 ghost use Rattle.seats.specs.Written.{Written};
 ghost use Rattle.seats.specs.Tape.{digits};
+ghost use Rattle.seats.specs.Images.{set-bytes};
 ghost use Rattle.seats.specs.Reading.{read-filled};
 use crate::Filled;
+use crate::image::SET;
+use graph::PrivilegeSet;
 use graph::Refusal;
 
 // What filling answers where the buffer is too short: a refusal at place 0.
@@ -39,6 +43,14 @@ pub(crate) fn put_number(buffer: &mut [u8], at: usize, n: usize, x: u64) -> usiz
         i += 1;
     }
     at + n
+}
+
+// The bytes of a set of privileges at a place; gives the place behind them.
+pub(crate) fn put_set(buffer: &mut [u8], at: usize, s: PrivilegeSet) -> usize
+    requires { ⌜ at + set-bytes ≤ length (now buffer) ⌝ }
+    ensures { λ r. ⌜ Written (now (buffer .entry)) at (bytes-of set-bytes (read-set s)) (now (buffer .exit)) r ⌝ }
+{
+    put_number(buffer, at, SET, s.word)
 }
 
 // How many digits a number has, at most 20.

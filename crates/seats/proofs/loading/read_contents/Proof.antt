@@ -1,12 +1,10 @@
--- `seats::loading::read_contents` meets its contract: the parts stand one behind the other, and each reader tests its own.
+-- `seats::loading::read_contents` meets its contract: the parts stand one behind the other, and each is tested as it is read.
 -- Assumes nothing.
 use borrow.Author.Needs.{needs}
-use Prim.Native.Nat.{ℕ, _<_}
-use lib.ListN.{getD}
+use Rattle.graph.specs.Reading.{sets-in}
 use Rattle.seats.specs.Images.{distance, contents}
 use Rattle.seats.specs.Reading.{read-counts}
-use Rattle.seats.proofs.EntryBytes.{entries-lt}
-use Rattle.seats.proofs.EntryReading.{places-bytes}
+use Rattle.seats.specs.ImageWork.{value-bytes, table-in}
 use Rattle.seats.proofs.LoadChecks.{contents-read}
 use Rattle.seats.proofs.loading.read_contents.Statement.{statement}
 use Rattle.seats.proofs.loading.read_contents.Tie as tie
@@ -30,36 +28,44 @@ add-seats-at : tie.Need-add-seats-at
 unfolding distance
 add-seats-at c = search needs
 
-word-requires : tie.Need-word-requires
-unfolding distance
-word-requires c κs = search needs
+slice-aggregate-store : tie.Need-slice-aggregate-store
+slice-aggregate-store c = search needs
 
-array-write-sets : tie.Need-array-write-sets
-array-write-sets c = search needs
-
-read-table-requires : tie.Need-read-table-requires
+set-at-requires : tie.Need-set-at-requires
 unfolding distance
-read-table-requires c κs = search needs
+set-at-requires c κs = search needs
 
-read-pairs-requires : tie.Need-read-pairs-requires
-unfolding distance
-read-pairs-requires c κs = search needs
+slice-aggregate-read-entries : tie.Need-slice-aggregate-read-entries
+slice-aggregate-read-entries c = search needs
 
-read-table-requires-2 : tie.Need-read-table-requires-2
-unfolding distance
-read-table-requires-2 c κs = search needs
+read-entries-requires : tie.Need-read-entries-requires
+unfolding distance value-bytes
+read-entries-requires c κs = search needs
+
+slice-aggregate-read-entries-2 : tie.Need-slice-aggregate-read-entries-2
+slice-aggregate-read-entries-2 c = search needs
+
+read-entries-requires-2 : tie.Need-read-entries-requires-2
+unfolding distance value-bytes
+read-entries-requires-2 c κs = search needs
+
+slice-aggregate-read-entries-3 : tie.Need-slice-aggregate-read-entries-3
+slice-aggregate-read-entries-3 c = search needs
+
+read-entries-requires-3 : tie.Need-read-entries-requires-3
+unfolding distance value-bytes
+read-entries-requires-3 c κs = search needs
 
 returns : tie.Need-returns
-unfolding contents
+unfolding contents value-bytes table-in sets-in
 returns c =
-    let w = c .before .before .before .before .before .before .before .before in
-    let e = w .before .before .before in
-    let s = e .before .args in
-    let h : (i : ℕ) → getD (s .bytes .now) i 0 < 256 = λ i. e .shared-slice-known .given i .fits in
-    contents-read (contents (s .bytes .now) (s .at) (read-counts (s .counts))) (entries-lt 8 _ _ _ (places-bytes _ h))
-    (rw (w .word .ensures) at (c .before .before .before .before .before .before .read-table .ensures))
-    (c .before .before .before .before .read-pairs .ensures)
-    (c .before .before .read-table2 .ensures)
+    let s = c .before .before .before .before in
+    let p = s .before .before .before in
+    let r = p .before .before .before in
+    let w = r .before .before .before in
+    let g = w .before .before .before .before .before .before .args in
+    contents-read (contents (g .bytes .now) (g .at) (read-counts (g .counts)))
+    (rw (w .store .ensures, w .before .set-at .ensures) at (r .read-entries .ensures)) (p .read-entries2 .ensures) (s .read-entries3 .ensures)
 
 pub read-contents-spec : {M : Type 1} → statement M
 read-contents-spec =
@@ -70,9 +76,13 @@ read-contents-spec =
     add-conflicts-at
     mul-seats-at
     add-seats-at
-    word-requires
-    array-write-sets
-    read-table-requires
-    read-pairs-requires
-    read-table-requires-2
+    slice-aggregate-store
+    set-at-requires
+    (λ c κs. tt)
+    slice-aggregate-read-entries
+    read-entries-requires
+    slice-aggregate-read-entries-2
+    read-entries-requires-2
+    slice-aggregate-read-entries-3
+    read-entries-requires-3
     returns)

@@ -33,21 +33,21 @@ shared-slice-read-named-2 c = search needs
 shared-slice-read-named-3 : tie.Need-shared-slice-read-named-3
 shared-slice-read-named-3 c = search needs
 
+set-at-requires : tie.Need-set-at-requires
+set-at-requires c κs = search needs
+
 word-requires : tie.Need-word-requires
 word-requires c κs = search needs
 
 word-requires-2 : tie.Need-word-requires-2
 word-requires-2 c κs = search needs
 
-word-requires-3 : tie.Need-word-requires-3
-word-requires-3 c κs = search needs
-
 returns-3 : tie.Need-returns-3
 unfolding decode
 returns-3 c =
     let b = c .before .before .before .before .before .before .before in
     let l = b .before .before .before .before .args .bytes .now in
-    let f = fields-read l (c .before .before .before .word .ensures) (c .before .before .word2 .ensures) (c .before .word3 .ensures) in
+    let f = fields-read l (c .before .before .before .set-at .ensures) (c .before .before .word .ensures) (c .before .word2 .ensures) in
     simp
     (eq-eqb _ _ (b .before .before .if1 .left), eq-eqb _ _ (sym (b .before .spare .ensures) ∙ b .if2 .left))
     (c .named .ensures ∙ ap (λ (g : Fields). getD (malformed ∷ kinds g) (getD l 0 0) malformed) f)
@@ -62,8 +62,8 @@ decode-spec =
     shared-slice-read-named
     shared-slice-read-named-2
     shared-slice-read-named-3
+    set-at-requires
     word-requires
     word-requires-2
-    word-requires-3
     (λ c κs. tt)
     returns-3)

@@ -15,7 +15,7 @@ returns c = rw (c .before .match .keys1) (c .decoded-change .ensures ∙ at-kind
 
 returns-2 : tie.Need-returns-2
 unfolding kinds unused all-empty read-change
-returns-2 c = rw (c .before .before .match .keys2) (c .decoded-change2 .ensures ∙ at-kind _ 0 1 _ (c .before .unused2 .ensures))
+returns-2 c = rw (c .before .before .before .match .keys2) (c .decoded-change2 .ensures ∙ at-kind _ 0 1 _ (rw (c .before .before .empty .ensures) at (c .before .unused2 .ensures)))
 
 returns-3 : tie.Need-returns-3
 unfolding kinds unused all-empty read-change
@@ -69,6 +69,7 @@ pub named-spec : {M : Type 1} → statement M
 named-spec =
     tie.close
     (tie.spec
+    (λ c κs. tt)
     (λ c κs. tt)
     (λ c κs. tt)
     (λ c κs. tt)

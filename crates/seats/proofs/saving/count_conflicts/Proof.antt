@@ -6,6 +6,7 @@ use mathlib.Core.Path.{_≡_, ap}
 use Prim.Native.Nat.{_+_, _-_, _≤_}
 use native.Mathlib.Omega.{arith}
 use lib.ListN.{length}
+use Rattle.graph.specs.Graph.{privilege-count}
 use Rattle.graph.specs.Reading.{sets-in}
 use Rattle.seats.specs.ImageWork.{pair-entries}
 use Rattle.seats.proofs.ImageLength.{conflicts-bound}
@@ -14,16 +15,13 @@ use Rattle.seats.proofs.saving.count_conflicts.Statement.{statement}
 use Rattle.seats.proofs.saving.count_conflicts.Tie as tie
 
 abbrev Inv-loop : tie.InvT-loop
-Inv-loop conflicts n₀ lower₀ n lower = (lower ≤ 64) × (n + length (rows-from (sets-in conflicts) lower) ≡ length (pair-entries (sets-in conflicts)))
+Inv-loop conflicts n₀ lower₀ n lower = (lower ≤ privilege-count) × (n + length (rows-from (sets-in conflicts) lower) ≡ length (pair-entries (sets-in conflicts)))
 
 abbrev μ-loop : tie.MeasureT-loop
-μ-loop conflicts n₀ lower₀ n lower = 64 - lower
+μ-loop conflicts n₀ lower₀ n lower = privilege-count - lower
 
 loop-holds : tie.Need-loop-holds Inv-loop μ-loop
 loop-holds c = (search needs, let e = ap length (rows-all (sets-in (c .before .args .conflicts .now))) in omega arith)
-
-row-requires : tie.Need-row-requires Inv-loop μ-loop
-row-requires c κs = search needs
 
 counted-requires : tie.Need-counted-requires Inv-loop μ-loop
 counted-requires c κs =
@@ -60,7 +58,7 @@ count-conflicts-spec =
     Inv-loop
     μ-loop
     loop-holds
-    row-requires
+    (λ c κs. tt)
     counted-requires
     add-lower
     loop-less

@@ -3,10 +3,14 @@
 use borrow.Author.Needs.{needs}
 use mathlib.Core.Bool.{Bool}
 use mathlib.Core.Path.{_≡_, refl, ap, ap₂, _∙_}
-use Prim.Native.Nat.{ℕ, _+_, _-_, _≤_}
+use Prim.Native.Nat.{ℕ, _+_, _-_, _≤_, _<_}
 use native.Mathlib.Numerals.{add-one}
 use native.Mathlib.Omega.{arith}
-use Rattle.sets.specs.Sets.{single, when, union, collect}
+use borrow.Author.Tests.{lt-ltb}
+use lib.Bits.{or-zero-l}
+use lib.Dec.{ltb}
+use Rattle.sets.specs.Sets.{empty, single, when, union, collect}
+use Rattle.seats.specs.Seats.{seat-count}
 use Rattle.seats.proofs.StoredEntries.{filled}
 use Rattle.seats.proofs.saving.occupied.Statement.{statement}
 use Rattle.seats.proofs.saving.occupied.Tie as tie
@@ -17,17 +21,19 @@ unfolding collect
 grown f i e o q = rw add-one (q ∙ ap₂ union o e)
 
 abbrev Inv-loop : tie.InvT-loop
-Inv-loop seats found₀ i₀ found i = (i ≤ 64) × (found ≡ collect i (filled seats))
+Inv-loop seats found₀ i₀ found i = (i ≤ seat-count) × (found ≡ collect i (filled seats))
 
 abbrev μ-loop : tie.MeasureT-loop
-μ-loop seats found₀ i₀ found i = 64 - i
+μ-loop seats found₀ i₀ found i = seat-count - i
 
 loop-holds : tie.Need-loop-holds Inv-loop μ-loop
 unfolding collect
 loop-holds c = (search needs, refl)
 
-only-requires : tie.Need-only-requires Inv-loop μ-loop
-only-requires c κs = search needs
+-- A seat's number joined to nothing is the set of it alone.
+alone : (i : ℕ) {one : ℕ} → i < seat-count → one ≡ union empty (when (ltb i seat-count) (single i)) → one ≡ single i
+unfolding union when
+alone i h q = q ∙ rw (lt-ltb i seat-count h) (or-zero-l (single i))
 
 add-i : tie.Need-add-i Inv-loop μ-loop
 add-i c = search needs
@@ -40,11 +46,11 @@ loop-again c =
     let e = c .before .before .before in
     let b = e .before .before in
     let f = filled (b .before .before .args .seats .now) in
-    (search needs, grown f _ (b .loop .inv .1) (c .before .when .ensures ∙ rw (e .roles-at .ensures, c .before .before .only .ensures)) (c .union .ensures))
+    (search needs, grown f _ (b .loop .inv .1) (c .before .when .ensures ∙ rw (e .roles-at .ensures, alone _ (e .before .loop-test .taken) (c .before .before .insert .ensures))) (c .union .ensures))
 
 returns : tie.Need-returns Inv-loop μ-loop
 returns c =
-    let e : c .before .loop .i ≡ 64 = omega arith in
+    let e : c .before .loop .i ≡ seat-count = omega arith in
     c .before .loop .inv .1 ∙ ap (λ (k : ℕ). collect k (filled (c .before .before .before .args .seats .now))) e
 
 pub occupied-spec : {M : Type 1} → statement M
@@ -55,7 +61,7 @@ occupied-spec =
     μ-loop
     loop-holds
     (λ c κs. tt)
-    only-requires
+    (λ c κs. tt)
     (λ c κs. tt)
     (λ c κs. tt)
     add-i

@@ -5,14 +5,15 @@ use borrow.Author.Needs.{needs}
 use Rattle.graph.specs.Reading.{sets-in}
 use mathlib.Core.List.{List, _++_}
 use Prim.Native.Nat.{ℕ, _+_, _<_, _≤_}
+use Rattle.graph.specs.Graph.{role-count, max-role}
 use Rattle.graph.specs.Tables.{at}
 use Rattle.sets.proofs.Laws.{size-bound}
 use lib.ListN.{length}
 use Rattle.seats.specs.Bytes.{bytes-of}
-use Rattle.seats.specs.Seats.{State}
-use Rattle.seats.specs.Images.{entry-bytes, Counts, trailer, image}
+use Rattle.seats.specs.Seats.{State, seat-count}
+use Rattle.seats.specs.Images.{set-bytes, role-set-bytes, privilege-bytes, entry-bytes, Counts, trailer, image}
 use Rattle.seats.specs.Reading.{state-of, read-filled}
-use Rattle.seats.specs.ImageWork.{table-entries, pair-entries}
+use Rattle.seats.specs.ImageWork.{value-bytes, value-of, table-entries, pair-entries}
 use Rattle.seats.proofs.Numbers.{length-bytes-of}
 use Rattle.seats.proofs.ImageLength.{length-trailer}
 use Rattle.seats.proofs.Written.{Unwritten, unwritten-length, piece-room, unwritten-next, unwritten-last}
@@ -47,16 +48,16 @@ module _ (c : tie.Else1) where
   start = entered (c .before)
 
   abbrev top-part : List ℕ
-  top-part = bytes-of 8 (at (sets-in (start .args .sets .now)) 1)
+  top-part = bytes-of set-bytes (at (sets-in (start .args .sets .now)) max-role)
 
   abbrev roles-part : List ℕ
-  roles-part = entry-bytes 8 (table-entries (c .before .before .before .before .before .before .ordinary-roles .result) (sets-in (start .args .sets .now)))
+  roles-part = entry-bytes set-bytes (table-entries (c .before .before .before .before .before .before .ordinary-roles .result) (sets-in (start .args .sets .now)))
 
   abbrev conflicts-part : List ℕ
-  conflicts-part = entry-bytes 1 (pair-entries (sets-in (start .args .conflicts .now)))
+  conflicts-part = entry-bytes privilege-bytes (pair-entries (sets-in (start .args .conflicts .now)))
 
   abbrev seats-part : List ℕ
-  seats-part = entry-bytes 8 (table-entries (c .before .before .before .before .before .occupied .result) (start .args .seats .now))
+  seats-part = entry-bytes role-set-bytes (table-entries (c .before .before .before .before .before .occupied .result) (start .args .seats .now))
 
   abbrev trailer-part : List ℕ
   trailer-part = trailer (counts (c .before))
@@ -72,7 +73,7 @@ module _ (c : tie.Else1) where
   all-left = image-left (counted (c .before)) _
 
 -- ---- what each writer leaves
-abbrev top-from : tie.After-put-number → tie.Else1
+abbrev top-from : tie.After-put-set → tie.Else1
 top-from c = c .before .before .before
 
 abbrev roles-from : tie.After-put-table → tie.Else1
@@ -84,30 +85,30 @@ conflicts-from c = roles-from (c .before .before .before .before)
 abbrev seats-from : tie.After-put-table2 → tie.Else1
 seats-from c = conflicts-from (c .before .before .before .before)
 
-top-written : (c : tie.After-put-number) → let o = top-from c in Left o (c .put-number .last .0) (c .put-number .result) (roles-part o ++ (conflicts-part o ++ (seats-part o ++ trailer-part o)))
-unfolding sets-in
-top-written c = unwritten-next (top-part (top-from c)) _ (all-left (top-from c)) (rw (c .before .roles-at .ensures) at (c .put-number .ensures))
+top-written : (c : tie.After-put-set) → let o = top-from c in Left o (c .put-set .last .0) (c .put-set .result) (roles-part o ++ (conflicts-part o ++ (seats-part o ++ trailer-part o)))
+top-written c = unwritten-next (top-part (top-from c)) _ (all-left (top-from c)) (rw (c .before .entry .ensures) at (c .put-set .ensures))
 
 roles-written : (c : tie.After-put-table) → let o = roles-from c in Left o (c .put-table .last .0) (c .put-table .result) (conflicts-part o ++ (seats-part o ++ trailer-part o))
-unfolding sets-in
+unfolding value-bytes value-of
 roles-written c = unwritten-next (roles-part (roles-from c)) _ (top-written (c .before .before .before .before)) (c .put-table .ensures)
 
 conflicts-written : (c : tie.After-put-conflicts) → let o = conflicts-from c in Left o (c .put-conflicts .last .0) (c .put-conflicts .result) (seats-part o ++ trailer-part o)
 conflicts-written c = unwritten-next (conflicts-part (conflicts-from c)) _ (roles-written (c .before .before .before .before)) (c .put-conflicts .ensures)
 
 seats-written : (c : tie.After-put-table2) → Left (seats-from c) (c .put-table2 .last .0) (c .put-table2 .result) (trailer-part (seats-from c))
+unfolding value-bytes value-of
 seats-written c = unwritten-next (seats-part (seats-from c)) _ (conflicts-written (c .before .before .before .before)) (c .put-table2 .ensures)
 
 cast-r : tie.Need-cast-r
-cast-r c = let a = size-bound 64 (c .before .before .ordinary-roles .result) in let e = c .size .ensures in omega arith
+cast-r c = let a = size-bound role-count (c .before .before .ordinary-roles .result) in let e = c .size .ensures in omega arith
 
 cast-s : tie.Need-cast-s
-cast-s c = let a = size-bound 64 (c .before .before .occupied .result) in let e = c .size2 .ensures in omega arith
+cast-s c = let a = size-bound seat-count (c .before .before .occupied .result) in let e = c .size2 .ensures in omega arith
 
 few : (c : tie.After-count-conflicts) → (c .before .before .size .result < 256) × (c .before .size2 .result < 256) × (c .count-conflicts .result < 65536)
 few c =
-    let a = size-bound 64 (c .before .before .before .before .ordinary-roles .result) in
-    let b = size-bound 64 (c .before .before .before .occupied .result) in
+    let a = size-bound role-count (c .before .before .before .before .ordinary-roles .result) in
+    let b = size-bound seat-count (c .before .before .before .occupied .result) in
     let e = c .before .before .size .ensures in
     let f = c .before .size2 .ensures in
     let l = c .count-conflicts .ensures .1 in
@@ -119,21 +120,22 @@ distance-requires c κs = few c
 returns : tie.Need-returns
 returns c = rw (c .too-short .ensures) (saves-nothing (counted (c .before .before)) _ (c .before .if1 .taken))
 
-put-number-requires : tie.Need-put-number-requires
-put-number-requires c κs =
+put-set-requires : tie.Need-put-set-requires
+put-set-requires c κs =
     let o = c .before .before in
-    let l = length-bytes-of 8 (at (sets-in (start o .args .sets .now)) 1) in
+    let l = length-bytes-of set-bytes (at (sets-in (start o .args .sets .now)) max-role) in
     let h = piece-room (top-part o) _ (all-left o) (fits o) in
     omega arith
 
 put-table-requires : tie.Need-put-table-requires
-unfolding sets-in
+unfolding value-bytes value-of
 put-table-requires c κs = let b = c .before .before .before in piece-room (roles-part (top-from b)) _ (top-written b) (fits (top-from b))
 
 put-conflicts-requires : tie.Need-put-conflicts-requires
 put-conflicts-requires c κs = let b = c .before .before .before in piece-room (conflicts-part (roles-from b)) _ (roles-written b) (fits (roles-from b))
 
 put-table-requires-2 : tie.Need-put-table-requires-2
+unfolding value-bytes value-of
 put-table-requires-2 c κs = let b = c .before .before .before in piece-room (seats-part (conflicts-from b)) _ (conflicts-written b) (fits (conflicts-from b))
 
 put-trailer-requires : tie.Need-put-trailer-requires
@@ -173,7 +175,7 @@ save-spec =
     (λ c κs. tt)
     returns
     (λ c κs. tt)
-    put-number-requires
+    put-set-requires
     put-table-requires
     put-conflicts-requires
     put-table-requires-2
