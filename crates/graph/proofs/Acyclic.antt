@@ -1,79 +1,64 @@
--- Going down along juniors: where it ends, a height falls from senior to junior, and where a height falls, it ends.
+-- Going down along juniors where it ends: closing solves the paper's equation, and the number of roles below falls from senior to junior.
 -- Assumes nothing.
-use mathlib.Core.Path.{_≡_}
-use mathlib.Core.Bool.{Bool, not, _&&_}
+use mathlib.Core.Path.{_≡_, sym, subst}
+use mathlib.Core.Logic.{inl, inr}
 use mathlib.Core.List.{List}
 use Prim.Native.Nat.{ℕ, zero, suc, _<_}
-use native.Mathlib.Nat.{not-suc-le-zero, lt-suc-self}
-use native.Mathlib.Decide.{decLt}
 use native.Mathlib.Omega.{arith}
-use lib.Dec.{T, T-not, not-T}
-use Rattle.sets.specs.Counting.{any, lowest}
-use Rattle.sets.specs.Sets.{empty, member}
-use Rattle.sets.proofs.Tests.{both, join, so}
-use Rattle.sets.proofs.Counting.{any-some, some-any, lowest-passes, lowest-first}
+use lib.Dec.{T}
+use Rattle.sets.specs.Sets.{member, union, size, gather}
+use Rattle.sets.proofs.Counting.{count-lt}
+use Rattle.sets.proofs.Members.{in-union, union-left, union-right, in-empty, in-gather, gather-in}
 use Rattle.graph.specs.Tables.{at}
 use Rattle.graph.specs.Graph.{role-count}
-use Rattle.graph.specs.Working.{ends, Ending, Acyclic}
-use Rattle.graph.proofs.Gathering.{level, level-falls, level-bound}
+use Rattle.graph.specs.Closing.{gathered}
+use Rattle.graph.specs.Working.{Ending, closed-set, roles-under, number-below}
+use Rattle.graph.proofs.Gathering.{equation}
 
-module _ (juniors : List ℕ) where
-  -- t is a junior of r from which some way down has more than n roles.
-  longer : ℕ → ℕ → ℕ → Bool
-  longer n r t = member t (at juniors r) && not (ends juniors n t)
+-- A role's closed set is its direct privileges joined with the closed sets of its juniors.
+pub closed-set-equation : (directs juniors : List ℕ) → Ending juniors → (r : ℕ) → r < role-count
+    → closed-set directs juniors r ≡ union (at directs r) (gather role-count (λ t. member t (at juniors r)) (closed-set directs juniors))
+unfolding closed-set
+closed-set-equation directs juniors ending r l = equation (at directs) (λ t r. member t (at juniors r)) (ending .height) (ending .falls) r l
 
-  ends-none : (r : ℕ) → T (ends juniors zero r) → ⊥
-  unfolding ends
-  ends-none r e = e
+module _ (juniors : List ℕ) (ending : Ending juniors) where
+  -- The roles below r are its juniors and the roles below these.
+  under-equation : (r : ℕ) → r < role-count
+      → roles-under juniors r ≡ union (at juniors r) (gather role-count (λ t. member t (at juniors r)) (roles-under juniors))
+  unfolding roles-under
+  under-equation = closed-set-equation juniors juniors ending
 
-  ends-down : (n t r : ℕ) → T (ends juniors (suc n) r) → t < role-count → T (member t (at juniors r)) → T (ends juniors n t)
-  unfolding ends longer
-  ends-down n t r e l m =
-      so (ends juniors n t)
-      (λ f. T-not (any role-count (longer n r)) e (some-any role-count (longer n r) t l (join (member t (at juniors r)) (not (ends juniors n t)) m f)))
+  junior-under : (t r : ℕ) → r < role-count → T (member t (at juniors r)) → T (member t (roles-under juniors r))
+  junior-under t r l m = subst (λ (s : ℕ). T (member t s)) (sym (under-equation r l)) (union-left t _ _ m)
 
-  ends-up : (n r : ℕ) → ((t : ℕ) → t < role-count → T (member t (at juniors r)) → T (ends juniors n t)) → T (ends juniors (suc n) r)
-  unfolding ends longer
-  ends-up n r down =
-      not-T (any role-count (longer n r))
-      (λ some.
-      let (t, l, x) = any-some role-count (longer n r) some in
-      let (m, o) = both (member t (at juniors r)) (not (ends juniors n t)) x in
-      T-not (ends juniors n t) o (down t l m))
+  -- What lies below a junior of r lies below r.
+  under-junior : (p t r : ℕ) → t < role-count → r < role-count → T (member t (at juniors r)) → T (member p (roles-under juniors t)) → T (member p (roles-under juniors r))
+  under-junior p t r h l m u =
+      subst (λ (s : ℕ). T (member p s)) (sym (under-equation r l))
+      (union-right p _ _ (gather-in p role-count (λ t. member t (at juniors r)) (roles-under juniors) t h m u))
 
-  -- A role's height: how many roles the longest way down from it has.
-  unfoldable pub height : ℕ → ℕ
-  height r = lowest (suc role-count) (λ n. ends juniors n r)
+  -- What lies below r is lower.
+  lower : (n p r : ℕ) → p < role-count → r < role-count → T (member p (gathered (at juniors) (λ t r. member t (at juniors r)) n r)) → ending .height p < ending .height r
+  unfolding gathered
+  lower zero p r k l m = absurd (in-empty p m)
+  lower (suc n) p r k l m =
+      elim (in-union p (at juniors r) (gather role-count (λ t. member t (at juniors r)) (gathered (at juniors) (λ t r. member t (at juniors r)) n)) m) [
+        | inl x ↦ ending .falls p r k l x
+        | inr x ↦ (
+            let (t, h, j, y) = in-gather p role-count (λ t. member t (at juniors r)) (gathered (at juniors) (λ t r. member t (at juniors r)) n) x in
+            let a = lower n p t k h y in
+            let b = ending .falls t r h l j in
+            omega arith)
+      ]
 
-  pub height-falls : Ending juniors → (t r : ℕ) → t < role-count → r < role-count → T (member t (at juniors r)) → height t < height r
-  unfolding height
-  height-falls ending t r h l m =
-      under (height r)
-      (lowest-passes (suc role-count) (λ n. ends juniors n r) (some-any (suc role-count) (λ n. ends juniors n r) role-count (lt-suc-self role-count) (ending r l)))
-    where
-      under : (k : ℕ) → T (ends juniors k r) → height t < k
-      under zero p = absurd (ends-none r p)
-      under (suc k) p =
-          elim (decLt (height t) (suc k)) [
-            | yes q ↦ q
-            | no d ↦ absurd (lowest-first (suc role-count) (λ n. ends juniors n t) k (omega (arith, d)) (ends-down k t r p h m))
-          ]
+  -- No role lies below itself.
+  no-return : (r : ℕ) → r < role-count → T (member r (roles-under juniors r)) → ⊥
+  unfolding roles-under closed-set
+  no-return r l m = let a = lower role-count r r l l m in omega arith
 
--- Where some number falls from senior to junior, and only roles that are present have juniors, closing may go down.
-module _ (juniors : List ℕ) (m : ℕ → ℕ) (falls : (t r : ℕ) → t < role-count → r < role-count → T (member t (at juniors r)) → m t < m r) where
-  depth : ℕ → ℕ
-  depth = level (at juniors) (λ t r. member t (at juniors r)) m falls
-
-  ends-by : (k r : ℕ) → r < role-count → depth r < k → T (ends juniors k r)
-  unfolding depth
-  ends-by zero r l h = absurd (not-suc-le-zero h)
-  ends-by (suc k) r l h =
-      ends-up juniors k r
-      (λ t b u. ends-by k t b (omega (arith, level-falls (at juniors) (λ t r. member t (at juniors r)) m falls t r b l u)))
-
-  pub acyclic : (present : ℕ) → ((r : ℕ) → r < role-count → (T (member r present) → ⊥) → at juniors r ≡ empty) → Acyclic present juniors
-  unfolding depth
-  acyclic present outside = record {
-    ending = λ r l. ends-by role-count r l (level-bound (at juniors) (λ t r. member t (at juniors r)) m falls r l);
-    outside = outside;
-  }
+  -- Fewer roles lie below a junior: those below it lie below its senior, and it does so itself.
+  pub number-below-falls : (t r : ℕ) → t < role-count → r < role-count → T (member t (at juniors r)) → number-below juniors t < number-below juniors r
+  unfolding number-below size
+  number-below-falls t r h l m =
+      count-lt role-count (λ n. member n (roles-under juniors t)) (λ n. member n (roles-under juniors r))
+      (λ p _. under-junior p t r h l m) t h (junior-under t r l m) (no-return t h)

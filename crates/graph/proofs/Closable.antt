@@ -1,8 +1,8 @@
 -- Tables that hold a drawing can be closed, and close to what it closes to.
 -- Assumes nothing.
 use mathlib.Core.Path.{_≡_, sym, ap, ap₂, _∙_, subst}
-use mathlib.Core.Bool.{Bool, not, _&&_, _||_, or-false}
-use mathlib.Core.Logic.{_≢_, inl, inr}
+use mathlib.Core.Bool.{not, _&&_, _||_, or-false}
+use mathlib.Core.Logic.{inl, inr}
 use mathlib.Core.List.{List}
 use Prim.Native.Nat.{ℕ, _<_, _≤_, _^_}
 use native.Mathlib.Decide.{ℕ-discrete}
@@ -11,7 +11,7 @@ use lib.ListN.{set}
 use lib.Seq.{getD-set-same, getD-set-other}
 use lib.Dec.{T, not-T, eqb}
 use Rattle.sets.specs.Sets.{member, single, union, difference}
-use Rattle.sets.proofs.Tests.{join, either, passes, fails, decide, equal-test, test-equal}
+use Rattle.sets.proofs.Tests.{join, either, fails, decide, test-equal}
 use Rattle.sets.proofs.Laws.{member-union, member-lt, union-lt, difference-lt}
 use Rattle.sets.proofs.Members.{union-left, union-right, single-in, no-members}
 use Rattle.graph.specs.Tables.{at, table}
@@ -26,7 +26,6 @@ use Rattle.graph.proofs.Gathering.{gathered-cong}
 use Rattle.graph.proofs.Closing.{closed-at, closed-length, by-edge, of-top, counted, counted-height, counts-rise}
 use Rattle.graph.proofs.Order.{is-end-lt}
 use Rattle.graph.proofs.DrawingCode.{ordinary-member}
-use Rattle.graph.proofs.Acyclic.{acyclic}
 
 module _ {d : Drawing} {roles : ℕ} (b : roles < 2 ^ role-count) {D J : List ℕ} (h : Holds d roles D J) where
   -- The ordinary roles.
@@ -82,7 +81,12 @@ module _ {d : Drawing} {roles : ℕ} (b : roles < 2 ^ role-count) {D J : List �
 
   -- Going down these tables ends.
   pub closable : Acyclic (union own 2) K
-  closable =
-      acyclic K (counted-height d (h .no-circle)) (λ t r k l m. counts-rise d (h .no-circle) t r (subst T (counted-at t r k l) m)) (union own 2)
-      (λ r l n. no-members role-count (at K r) (K-table .entry-lt r)
-      (λ t m. n (senior t r (subst T (counted-at t r (member-lt role-count t (at K r) (K-table .entry-lt r) m) l) m))))
+  closable = record {
+    ending = record {
+      height = counted-height d (h .no-circle);
+      falls = λ t r k l m. counts-rise d (h .no-circle) t r (subst T (counted-at t r k l) m);
+    };
+    outside = λ r l n.
+        no-members role-count (at K r) (K-table .entry-lt r)
+        (λ t m. n (senior t r (subst T (counted-at t r (member-lt role-count t (at K r) (K-table .entry-lt r) m) l) m)));
+  }

@@ -31,20 +31,20 @@ gathered-lt D E h (suc k) r = union-lt privilege-count _ _ (h r) (gather-lt priv
 -- ---- the equation and its one solution, where a height rises from junior to senior
 module _ (D : ℕ → ℕ) (E : ℕ → ℕ → Bool) (height : ℕ → ℕ) (falls : (t r : ℕ) → t < role-count → r < role-count → T (E t r) → height t < height r) where
   -- Any height makes one below role-count: how many roles are lower.
-  pub level : ℕ → ℕ
+  level : ℕ → ℕ
   level r = count role-count (λ t. ltb (height t) (height r))
 
   not-lower : (r : ℕ) → T (ltb (height r) (height r)) → ⊥
   not-lower r t = let l = ltb→lt (height r) (height r) t in omega arith
 
-  pub level-falls : (t r : ℕ) → t < role-count → r < role-count → T (E t r) → level t < level r
+  level-falls : (t r : ℕ) → t < role-count → r < role-count → T (E t r) → level t < level r
   unfolding level
   level-falls t r h l u =
       let f = falls t r h l u in
       count-lt role-count (λ i. ltb (height i) (height t)) (λ i. ltb (height i) (height r))
       (λ i _ x. lt→ltb (height i) (height r) (let y = ltb→lt (height i) (height t) x in omega arith)) t h (lt→ltb (height t) (height r) f) (not-lower t)
 
-  pub level-bound : (r : ℕ) → r < role-count → level r < role-count
+  level-bound : (r : ℕ) → r < role-count → level r < role-count
   unfolding level
   level-bound r l =
       omega (arith, count-lt role-count (λ i. ltb (height i) (height r)) (λ i. true) (λ i _ x. tt) r l tt (not-lower r), count-all role-count)

@@ -19,8 +19,7 @@ use Rattle.graph.specs.Tables.{at, table}
 use Rattle.graph.specs.Graph.{role-count}
 use Rattle.graph.specs.Working.{Ending, Acyclic, closed-set, Memo}
 use Rattle.graph.proofs.Tables.{length-table, at-table, table-ext}
-use Rattle.graph.proofs.Gathering.{equation}
-use Rattle.graph.proofs.Acyclic.{height, height-falls}
+use Rattle.graph.proofs.Acyclic.{closed-set-equation}
 use Rattle.graph.proofs.Loops.{Left, left-all, left-next, Gathering, gathering-none, gathering-next}
 
 -- What is gathered where no number passes.
@@ -29,17 +28,10 @@ gather-empty n c f h =
     no-members 0 (gather n c f) (gather-lt 0 n c f (λ i t. absurd (h i t))) (λ p m. let (i, _, x, _) = in-gather p n c f m in h i x)
 
 -- ---- one role more
--- A role's closed set is its direct privileges joined with the closed sets of its juniors.
-closed-equation : (directs juniors : List ℕ) → Ending juniors → (r : ℕ) → r < role-count
-    → closed-set directs juniors r ≡ union (at directs r) (gather role-count (λ t. member t (at juniors r)) (closed-set directs juniors))
-unfolding closed-set
-closed-equation directs juniors ending r l =
-    equation (at directs) (λ t r. member t (at juniors r)) (height juniors) (height-falls juniors ending) r l
-
 -- A role without juniors has its direct privileges alone.
 closed-alone : (directs juniors : List ℕ) → Ending juniors → (r : ℕ) → r < role-count → at juniors r ≡ empty → closed-set directs juniors r ≡ at directs r
 closed-alone directs juniors ending r l e =
-    closed-equation directs juniors ending r l
+    closed-set-equation directs juniors ending r l
     ∙ ap (union (at directs r)) (gather-empty role-count _ _ (λ t m. in-empty t (subst (λ (s : ℕ). T (member t s)) e m)))
     ∙ union-empty (at directs r)
 
@@ -67,7 +59,7 @@ pub role-closed : {directs juniors sets : List ℕ} {done r s v one more : ℕ} 
 role-closed {directs} {juniors} {sets} {done} {r} {v = v} before ending l w kept e f g h =
     subst (λ (i : ℕ). Memo directs juniors i (set sets r v) × (((n : ℕ) → T (member n before) → T (member n i)) × T (member r i)))
     (sym (h ∙ ap (union done) g)) (
-      memo-more directs juniors done sets r v l (f ∙ ap (union (at directs r)) e ∙ sym (closed-equation directs juniors ending r l)) w,
+      memo-more directs juniors done sets r v l (f ∙ ap (union (at directs r)) e ∙ sym (closed-set-equation directs juniors ending r l)) w,
       (λ n m. union-left n done (single r) (kept n m), union-right r done (single r) (single-in r)),
     )
 

@@ -1,12 +1,11 @@
 -- What the contracts of private functions speak of: drawings held in tables, and edges without a circle.
 use mathlib.Core.Path.{_≡_}
-use mathlib.Core.Bool.{Bool, false, cond, not, _&&_, _||_}
+use mathlib.Core.Bool.{Bool, cond, _||_}
 use mathlib.Core.List.{List}
-use Prim.Native.Nat.{ℕ, zero, suc, _<_, _≤_}
+use Prim.Native.Nat.{ℕ, _<_, _≤_}
 use lib.ListN.{length}
 use lib.Dec.{T}
-use Rattle.sets.specs.Counting.{any}
-use Rattle.sets.specs.Sets.{empty, member, difference, gather}
+use Rattle.sets.specs.Sets.{empty, member, difference, size, gather}
 use Rattle.graph.specs.Tables.{at, table}
 use Rattle.graph.specs.Graph.{role-count, max-role, is-end}
 use Rattle.graph.specs.Drawing.{Drawing}
@@ -40,14 +39,10 @@ pub record Holds (d : Drawing) (roles : ℕ) (directs juniors : List ℕ) : Type
   pub no-circle : JoinsLaid (d .roles) (d .joins)
 
 -- ---- closing under way
--- Every way down from r along juniors has at most n roles.
-unfoldable pub ends : List ℕ → ℕ → ℕ → Bool
-ends juniors zero r = false
-ends juniors (suc n) r = not (any role-count (λ t. member t (at juniors r) && not (ends juniors n t)))
-
--- Going down along juniors ends, so that it never comes back to a role.
-abbrev pub Ending : List ℕ → Type 0
-Ending juniors = (r : ℕ) → r < role-count → T (ends juniors role-count r)
+-- Going down along juniors ends: some number falls from senior to junior, so that no way down comes back to a role.
+pub record Ending (juniors : List ℕ) : Type 0 where
+  pub height : ℕ → ℕ
+  pub falls : (t r : ℕ) → t < role-count → r < role-count → T (member t (at juniors r)) → height t < height r
 
 -- Going down along juniors ends, and a role that is not present has no juniors.
 pub record Acyclic (present : ℕ) (juniors : List ℕ) : Type 0 where
@@ -57,6 +52,14 @@ pub record Acyclic (present : ℕ) (juniors : List ℕ) : Type 0 where
 -- The set that closing gives role r, from a table of direct sets and a table of juniors.
 unfoldable pub closed-set : List ℕ → List ℕ → ℕ → ℕ
 closed-set directs juniors = gathered (at directs) (λ t r. member t (at juniors r)) role-count
+
+-- The roles below r along juniors: its juniors joined with the roles below these, as closing joins privileges.
+unfoldable pub roles-under : List ℕ → ℕ → ℕ
+roles-under juniors = closed-set juniors juniors
+
+-- How many roles lie below r along juniors.
+unfoldable pub number-below : List ℕ → ℕ → ℕ
+number-below juniors r = size role-count (roles-under juniors r)
 
 -- A table while closing is under way: it has an entry for each role, and the entry of each role that is done is its closed set.
 pub record Memo (directs juniors : List ℕ) (done : ℕ) (sets : List ℕ) : Type 0 where

@@ -1,17 +1,16 @@
 -- `graph::close::close_role` and `graph::close::gather`, which call each other, meet their contracts: a role's entry is done once its juniors are gathered.
--- What falls is the height of the role, how many roles the longest way down from it has. Assumes nothing.
+-- What falls is the number of roles below the role (`number-below-falls`). Assumes nothing.
 use mathlib.Core.Path.{sym, ap, _∙_, subst}
-use mathlib.Core.List.{List}
 use Prim.Native.Nat.{ℕ, _+_, _*_, _<_}
 use native.Mathlib.Omega.{arith}
 use borrow.Author.Needs.{needs}
 use lib.Dec.{T}
 use Rattle.sets.specs.Sets.{member, union}
 use Rattle.graph.specs.Tables.{at}
-use Rattle.graph.specs.Working.{Memo}
+use Rattle.graph.specs.Working.{number-below, Memo}
 use Rattle.graph.specs.Reading.{read-set, sets-in}
 use Rattle.graph.specs.Graph.{role-count}
-use Rattle.graph.proofs.Acyclic.{height, height-falls}
+use Rattle.graph.proofs.Acyclic.{number-below-falls}
 use Rattle.graph.proofs.Loops.{left-lowest, left-falls, left-alone, gathering-done}
 use Rattle.graph.proofs.ExchangeLoops.{left-in}
 use Rattle.graph.proofs.Memo.{role-closed, Joined, joined-none, joined-next}
@@ -37,10 +36,10 @@ use Rattle.graph.proofs.close.+close_role+gather.{statement}
 use Rattle.graph.proofs.close.+close_role+gather.Tie.{close}
 
 abbrev μ-close-role : Measures 3 close-role-kinds.ps ℕ
-μ-close-role κs a = height (a .1 .0 .now) (a .1 .1 .1 .1 .0) * 2 + 1
+μ-close-role κs a = number-below (a .1 .0 .now) (a .1 .1 .1 .1 .0) * 2 + 1
 
 abbrev μ-gather : Measures 3 gather-kinds.ps ℕ
-μ-gather κs a = height (a .1 .0 .now) (a .1 .1 .1 .1 .0) * 2
+μ-gather κs a = number-below (a .1 .0 .now) (a .1 .1 .1 .1 .0) * 2
 
 abbrev close-role-at : ℕ → In 3 close-role-kinds.ps
 close-role-at t =
@@ -136,7 +135,7 @@ gather-close-role-requires t c κs =
     let some = c .before .before .before .loop-test .taken in
     let below = gather-below-count t (c .before .before) in
     let junior = w .sum .left .within (m .result) (left-in (w .sum .left) some (m .ensures)) in
-    let h = height-falls (p .args .juniors .now) (p .pre .1 .1 .0) (m .result) (p .args .r) below (p .pre .1 .0) junior in
+    let h = number-below-falls (p .args .juniors .now) (p .pre .1 .1 .0) (m .result) (p .args .r) below (p .pre .1 .0) junior in
     (omega arith, (below, (p .pre .1 .1 .0, (w .memo, left-alone (w .sum .left) some (c .lowest-alone .ensures) (m .ensures)))))
 
 gather-entry-requires : (t : ℕ) → gather-lts.Need-entry-requires (gather-claims t) (gather-at t) gather.Post gather-Inv-loop gather-μ-loop

@@ -1,6 +1,5 @@
 -- `graph::editing::give` meets its contract: an exchange that takes nothing away.
 -- Assumes nothing.
-use borrow.Author.Needs.{needs}
 use mathlib.Core.Path.{_∙_}
 use Rattle.graph.proofs.Holding.{joined-all}
 use Rattle.graph.proofs.editing.give.Statement.{statement}

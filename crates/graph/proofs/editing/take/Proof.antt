@@ -1,6 +1,5 @@
 -- `graph::editing::take` meets its contract: an exchange that joins nothing.
 -- Assumes nothing.
-use borrow.Author.Needs.{needs}
 use mathlib.Core.Path.{_∙_}
 use Rattle.graph.proofs.Holding.{taken-all}
 use Rattle.graph.proofs.editing.take.Statement.{statement}

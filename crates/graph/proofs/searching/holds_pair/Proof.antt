@@ -1,7 +1,7 @@
 -- `graph::searching::holds_pair` meets its contract: it searches the set for a privilege with a partner, which stands among those left.
 -- Assumes nothing.
 use borrow.Author.Needs.{needs}
-use mathlib.Core.Path.{_≡_, sym, ap, _∙_}
+use mathlib.Core.Path.{sym, ap, _∙_}
 use Rattle.sets.specs.Sets.{meets}
 use Rattle.graph.specs.Graph.{privilege-count}
 use Rattle.graph.specs.Conflicts.{holds-pair}

@@ -5,7 +5,6 @@ use mathlib.Core.Path.{_∙_, sym}
 use Prim.Native.Nat.{_<_}
 use Rattle.sets.specs.Sets.{difference}
 use Rattle.sets.proofs.Laws.{difference-lt}
-use Rattle.graph.specs.Tables.{at}
 use Rattle.graph.specs.Graph.{role-count, effective}
 use Rattle.graph.specs.Refusing.{twin-role}
 use Rattle.graph.specs.Reading.{drawn-from}

@@ -1,7 +1,7 @@
 -- `graph::table::entry` meets its contract: the code reads the entry, and a table has the empty set beyond its end.
 -- Assumes nothing.
 use borrow.Author.Needs.{needs}
-use mathlib.Core.Path.{_∙_, sym, refl}
+use mathlib.Core.Path.{_∙_, sym}
 use Rattle.graph.specs.Tables.{at}
 use Rattle.graph.proofs.Tables.{at-end}
 use Rattle.graph.specs.Reading.{sets-in}

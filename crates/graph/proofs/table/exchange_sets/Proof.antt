@@ -2,12 +2,12 @@
 -- Assumes nothing.
 use mathlib.Core.Path.{refl, sym, ap, _∙_, subst}
 use mathlib.Core.List.{List}
-use Prim.Native.Nat.{ℕ, _<_}
+use Prim.Native.Nat.{ℕ}
 use borrow.Author.Needs.{needs}
 use Rattle.sets.specs.Sets.{member, union, difference, when}
 use Rattle.graph.specs.Tables.{at, table}
 use Rattle.graph.specs.Graph.{role-count}
-use Rattle.graph.proofs.Loops.{left-lowest, left-falls, Filling, filling-none, filling-next}
+use Rattle.graph.proofs.Loops.{left-falls, Filling, filling-none, filling-next}
 use Rattle.graph.proofs.ExchangeLoops.{filling-left, exchanged-done}
 use Rattle.graph.specs.Reading.{read-set, sets-in}
 use Rattle.graph.proofs.table.exchange_sets.Statement.{statement}

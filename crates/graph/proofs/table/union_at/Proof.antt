@@ -2,7 +2,6 @@
 -- Assumes nothing.
 use borrow.Author.Needs.{needs}
 use mathlib.Core.Path.{_∙_, sym, subst}
-use Prim.Native.Nat.{ℕ}
 use Rattle.graph.specs.Tables.{at}
 use Rattle.graph.specs.Reading.{sets-in}
 use Rattle.graph.specs.Reading.{read-set}
