@@ -207,8 +207,8 @@ unfolding sum
 sum-none zero f h = refl
 sum-none (suc n) f h = omega (arith, h n, sum-none n f h)
 
--- A sum of n numbers of at most 64.
-sum-bound : (n : ℕ) (f : ℕ → ℕ) → ((i : ℕ) → f i ≤ 64) → sum n f ≤ 64 * n
+-- A sum of n numbers of at most role-count.
+sum-bound : (n : ℕ) (f : ℕ → ℕ) → ((i : ℕ) → f i ≤ role-count) → sum n f ≤ role-count * n
 unfolding sum
 sum-bound zero f h = omega arith
 sum-bound (suc n) f h = omega (arith, h n, sum-bound n f h)
@@ -255,11 +255,11 @@ unfolding tally
 summing-done {f} {all} {rest} {acc} c z =
     c .got ∙ sum-cong role-count _ _ (λ i _. ap (λ (b : Bool). cond b (f i) 0) (left-over all z i))
 
--- A sum over the members of numbers of at most 64.
-pub summing-bound : {f : ℕ → ℕ} {all rest acc : ℕ} → Summing f all rest acc → ((i : ℕ) → f i ≤ 64) → acc ≤ 64 * role-count
+-- A sum over the members of numbers of at most role-count.
+pub summing-bound : {f : ℕ → ℕ} {all rest acc : ℕ} → Summing f all rest acc → ((i : ℕ) → f i ≤ role-count) → acc ≤ role-count * role-count
 unfolding tally
-summing-bound {f} {all} {rest} c h = subst (λ (x : ℕ). x ≤ 64 * role-count) (sym (c .got)) (sum-bound role-count (tally f all rest) (λ i. small (visited all rest i) (h i)))
+summing-bound {f} {all} {rest} c h = subst (λ (x : ℕ). x ≤ role-count * role-count) (sym (c .got)) (sum-bound role-count (tally f all rest) (λ i. small (visited all rest i) (h i)))
   where
-    small : {x : ℕ} (b : Bool) → x ≤ 64 → cond b x 0 ≤ 64
+    small : {x : ℕ} (b : Bool) → x ≤ role-count → cond b x 0 ≤ role-count
     small true l = l
     small false l = omega arith

@@ -4,7 +4,7 @@ use mathlib.Core.Path.{_≡_, sym, ap, _∙_, subst}
 use mathlib.Core.Bool.{Bool, true, not}
 use mathlib.Core.Logic.{_≢_, inl, inr}
 use mathlib.Core.List.{List}
-use Prim.Native.Nat.{ℕ, _<_, _^_}
+use Prim.Native.Nat.{ℕ, _-_, _<_, _^_}
 use native.Mathlib.Decide.{ℕ-discrete}
 use native.Mathlib.Omega.{arith}
 use lib.ListN.{length, set, length-set}
@@ -83,9 +83,9 @@ joined-next {s = s} {t = t} w some e memo kept m f g = record {
 }
 
 -- ---- the loop over the roles that are present
--- The number whose 64 digits are 1 is the set of all roles.
+-- The set of all role numbers: each of its digits is 1.
 abbrev all-roles : ℕ
-all-roles = 0xffff_ffff_ffff_ffff
+all-roles = 2 ^ role-count - 1
 
 all-in : (r : ℕ) → r < role-count → T (member r all-roles)
 unfolding collect union when single

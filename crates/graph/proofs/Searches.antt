@@ -13,7 +13,7 @@ use Rattle.sets.specs.Counting.{any, lowest}
 use Rattle.sets.specs.Sets.{member, single, union, intersection, meets, difference, strictly-included, lowest-member, without-lowest}
 use Rattle.sets.proofs.Tests.{both, join, either, or-left, or-right, same-test, passes, fails, decide, so, equal-test, test-equal, and-regroup}
 use Rattle.sets.proofs.Counting.{any-some, some-any, any-cong, lowest-lt, lowest-none, lowest-cong}
-use Rattle.sets.proofs.Laws.{member-lt, member-intersection, intersection-lt}
+use Rattle.sets.proofs.Laws.{member-lt, member-intersection, intersection-lt, difference-lt}
 use Rattle.sets.proofs.Members.{in-intersection, intersection-in, in-empty, no-members}
 use Rattle.sets.proofs.Walks.{Searched, search-none, search-next, search-found, search-done, visited, visited-none, visited-next, member-next, lowest-in, lowest-of}
 use Rattle.sets.proofs.Walks as Walks
@@ -36,7 +36,7 @@ found-test k f = same-test (ltb (lowest k f) k) (any k f) there (λ t. lt→ltb 
           | inr d ↦ absurd (let l = ltb→lt (lowest k f) k t in let e = lowest-none k f d in omega arith)
         ]
 
--- The lowest member of a set is a role's number, or 64.
+-- The lowest member of a set is a role's number, or role-count.
 pub lowest-bound : (s : ℕ) → lowest-member role-count s ≤ role-count
 unfolding lowest-member
 lowest-bound s =
@@ -76,6 +76,10 @@ pub record Search (w : ℕ) (f : ℕ → Bool) (all rest : ℕ) : Type 0 where
   pub left : Left w all rest
   pub searched : Searched f all rest
   pub above : (n m : ℕ) → T (visited all rest n) → T (member m rest) → n < m
+
+-- What a test says of the entry that was read.
+pub read-test : (f : ℕ → Bool) {s t : ℕ} {x y : Bool} → s ≡ t → x ≡ f s → x ≡ y → f t ≡ y
+read-test f e h z = ap f (sym e) ∙ sym h ∙ z
 
 pub starts : (w : ℕ) (f : ℕ → Bool) (all : ℕ) → all < 2 ^ w → Search w f all all
 starts w f all h = record { left = left-all w all h; searched = search-none f all; above = λ n m v. absurd (visited-none all n v) }
@@ -175,7 +179,10 @@ module _ {w : ℕ} {f : ℕ → Bool} {all rest : ℕ} (s : Search w f all rest)
       (λ t. let l = lowest-lt w (λ n. member n all && f n) t in let e = miss in omega arith))
 
 -- ---- ordinary roles
--- A search among the ordinary roles.
+-- A search among the ordinary roles starts with all of them.
+pub starts-ordinary : {f : ℕ → Bool} {roles all : ℕ} → roles < 2 ^ role-count → all ≡ difference roles 3 → Search role-count f (difference roles 3) all
+starts-ordinary {f} {roles} h e = rw e (starts role-count f (difference roles 3) (difference-lt role-count roles 3 h))
+
 pub among-ordinary : (g : Graph) (f : ℕ → Bool) → lowest role-count (λ n. member n (difference (g .roles) 3) && f n) ≡ lowest role-count (λ n. ordinary g n && f n)
 among-ordinary g f =
     lowest-cong role-count (λ n. member n (difference (g .roles) 3) && f n) (λ n. ordinary g n && f n)

@@ -9,6 +9,8 @@ use Rattle.graph.specs.Refusing.{Verdict, passed, refused}
 use Rattle.graph.specs.declared.PrivilegeSet as privilege-set-struct
 use Rattle.graph.specs.declared.Verdict as verdict-enum
 use Rattle.graph.specs.declared.Verdict.the-variants as verdicts
+use Rattle.graph.specs.declared.Removal as removal-enum
+use Rattle.graph.specs.declared.Removal.the-variants as removals
 use Rattle.graph.specs.declared.Change as change-enum
 use Rattle.graph.specs.declared.Change.the-variants as changes
 
@@ -37,11 +39,16 @@ unfoldable pub read-verdict : verdict-enum.Verdict → Verdict
 read-verdict verdicts.Passed = passed
 read-verdict (verdicts.Refused r) = refused (r .number) (r .place)
 
+-- A removal's b: 0 where the direct privileges are dropped, 1 where they go to the immediate seniors.
+unfoldable pub read-removal : removal-enum.Removal → ℕ
+read-removal removals.Dropped = 0
+read-removal removals.HandedUp = 1
+
 -- A change's kind and fields.
 unfoldable pub read-change : change-enum.Change → Change
 read-change (changes.AddByPlace a own juniors seniors) = add-by-place (a .0) (read-set own) juniors seniors
 read-change (changes.AddByPrivileges a own) = add-by-privileges (a .0) (read-set own)
-read-change (changes.RemoveRole a b) = remove-role (a .0) b
+read-change (changes.RemoveRole a b) = remove-role (a .0) (read-removal b)
 read-change (changes.Grant a b) = grant (a .0) (b .0)
 read-change (changes.Withdraw a b) = withdraw (a .0) (b .0)
 read-change (changes.AddEdge a b) = add-edge (a .0) (b .0)

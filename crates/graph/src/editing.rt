@@ -2,18 +2,19 @@
 ghost use mathlib.Core.Path.{_≡_};
 ghost use mathlib.Core.List.{List};
 ghost use Prim.Native.Nat.{ℕ};
-ghost use lib.Dec.{ltb};
+ghost use lib.Dec.{eqb, ltb};
 ghost use Rattle.sets.specs.Sets.{member, single, union, difference, when};
 ghost use Rattle.graph.specs.Tables.{at, table};
 ghost use Rattle.graph.specs.Graph.{Graph, role-count};
 ghost use Rattle.graph.specs.Drawing.{redraw};
 ghost use Rattle.graph.specs.Editing as spec;
 ghost use Rattle.graph.specs.Refusing.{passed, early};
-ghost use Rattle.graph.specs.Reading.{read-set, sets-in, read-change};
+ghost use Rattle.graph.specs.Reading.{read-set, sets-in, read-removal, read-change};
 ghost use Rattle.graph.specs.Working.{Holds};
 use crate::Change;
 use crate::Privilege;
 use crate::PrivilegeSet;
+use crate::Removal;
 use crate::Role;
 use crate::drawing::senior_roles;
 use crate::privileges;
@@ -73,15 +74,31 @@ fn add_by_privileges(roles: u64, directs: &mut SetTable, a: Role, own: Privilege
     sets::union(roles, role)
 }
 
-// Kind 3: every immediate junior joined to every immediate senior; with b 1 the direct privileges go to the seniors.
-fn remove_role(roles: u64, directs: &mut SetTable, juniors: &mut [u64; 64], a: Role, b: u8) -> u64
-    ensures { λ r. let c = spec.remove-role (a .0) b in ⌜ ((g : Graph) → Holds (redraw g) roles (sets-in (now (directs .entry))) (now (juniors .entry)) → early g c ≡ passed → Holds (spec.edit c (redraw g)) r (sets-in (now (directs .exit))) (now (juniors .exit))) ⌝ }
+// Whether a removal hands the direct privileges to the immediate seniors.
+fn hands_up(removal: Removal) -> bool
+    ensures { λ r. ⌜ r ≡ eqb (read-removal removal) 1 ⌝ }
+{
+    match removal {
+        Removal::Dropped => false,
+        Removal::HandedUp => true,
+    }
+}
+
+// Kind 3: every immediate junior joined to every immediate senior; where the direct privileges are handed up, they go to the seniors.
+fn remove_role(
+    roles: u64,
+    directs: &mut SetTable,
+    juniors: &mut [u64; 64],
+    a: Role,
+    removal: Removal,
+) -> u64
+    ensures { λ r. let c = spec.remove-role (a .0) (read-removal removal) in ⌜ ((g : Graph) → Holds (redraw g) roles (sets-in (now (directs .entry))) (now (juniors .entry)) → early g c ≡ passed → Holds (spec.edit c (redraw g)) r (sets-in (now (directs .exit))) (now (juniors .exit))) ⌝ }
 {
     let i = a.0 as usize;
     let role = only(i);
     let over = seniors_in(senior_roles(roles), juniors, i);
     let own = entry(directs, i);
-    give(directs, over, privileges::when(b == 1, own));
+    give(directs, over, privileges::when(hands_up(removal), own));
     take(directs, role, own);
     let under = roles_at(juniors, i);
     exchange_roles(juniors, over, role, under);
@@ -148,7 +165,7 @@ pub(crate) fn edit(
             add_by_place(roles, directs, juniors, a, own, under, over)
         }
         Change::AddByPrivileges(a, own) => add_by_privileges(roles, directs, a, own),
-        Change::RemoveRole(a, b) => remove_role(roles, directs, juniors, a, b),
+        Change::RemoveRole(a, removal) => remove_role(roles, directs, juniors, a, removal),
         Change::Grant(a, b) => grant(roles, directs, a, b),
         Change::Withdraw(a, b) => withdraw(roles, directs, a, b),
         Change::AddEdge(a, b) => add_edge(roles, juniors, a, b),

@@ -47,14 +47,19 @@ pub enum Verdict {
     Refused(Refusal),
 }
 
+// What becomes of the direct privileges of a role that is removed: they are dropped, or go to its immediate seniors.
+pub enum Removal {
+    Dropped,
+    HandedUp,
+}
+
 // A change of the graph, kinds 1 to 7, with the fields that the kind names.
 pub enum Change {
     // role, direct set, juniors, seniors
     AddByPlace(Role, PrivilegeSet, u64, u64),
     // role, effective set
     AddByPrivileges(Role, PrivilegeSet),
-    // role, and 1 where its direct privileges go to its immediate seniors
-    RemoveRole(Role, u8),
+    RemoveRole(Role, Removal),
     Grant(Role, Privilege),
     Withdraw(Role, Privilege),
     // junior, senior

@@ -2,6 +2,7 @@
 -- Assumes nothing.
 use borrow.Author.Needs.{needs}
 use mathlib.Core.Path.{_∙_, refl}
+use Rattle.graph.specs.Graph.{role-count}
 use Rattle.graph.specs.Drawing.{roles-below}
 use Rattle.graph.specs.Reading.{drawn-from}
 use Rattle.graph.proofs.Tables.{at-replicate}
@@ -17,7 +18,7 @@ abbrev μ-loop : tie.MeasureT-loop
 μ-loop roles sets found₀ rest₀ found rest = rest
 
 loop-holds : tie.Need-loop-holds Inv-loop μ-loop
-loop-holds c = filling-none _ _ (c .senior-roles .result) _ (search needs) refl (at-replicate 64)
+loop-holds c = filling-none _ _ (c .senior-roles .result) _ (search needs) refl (at-replicate role-count)
 
 cast-s : tie.Need-cast-s Inv-loop μ-loop
 cast-s c = search needs

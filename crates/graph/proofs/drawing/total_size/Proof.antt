@@ -1,4 +1,4 @@
--- `graph::drawing::total_size` meets its contract: the sizes of the entries visited so far are added up, 64 of at most 64.
+-- `graph::drawing::total_size` meets its contract: the sizes of the entries visited so far are added up, for each role number one of at most role-count.
 -- Assumes nothing.
 use borrow.Author.Needs.{needs}
 use mathlib.Core.Path.{ap}
@@ -33,7 +33,7 @@ element-copy-out-size c = left-lowest (c .before .before .loop .inv .left) (c .b
 add-total : tie.Need-add-total Inv-loop μ-loop
 add-total c =
     let b = c .before .before .before .before in
-    let k : c .size .result ≤ 64 = rw (c .size .ensures) (size-bound 64 _) in
+    let k : c .size .result ≤ role-count = rw (c .size .ensures) (size-bound role-count _) in
     omega (arith, summing-bound (b .loop .inv) (λ i. size-bound role-count (at (b .before .args .table .now) i)))
 
 loop-less : tie.Need-loop-less Inv-loop μ-loop

@@ -2,7 +2,7 @@
 -- Assumes nothing.
 use mathlib.Core.Path.{sym, ap, _∙_}
 use borrow.Author.Tests.{lt-ltb, le-ltb, le-leb, lt-leb}
-use Rattle.graph.specs.Graph.{is-end, effective}
+use Rattle.graph.specs.Graph.{role-count, is-end, effective}
 use Rattle.graph.specs.Refusing.{early, verdict, input-checks, state-checks, refused}
 use Rattle.graph.specs.Reading.{read-verdict}
 use Rattle.graph.proofs.Judging.{place-found, place-none}
@@ -13,14 +13,14 @@ returns : tie.Need-returns
 unfolding early verdict input-checks state-checks is-end effective
 returns c =
     simp
-    (le-leb 64 _ (c .before .if1 .taken))
+    (le-leb role-count _ (c .before .if1 .taken))
     (c .refuse .ensures)
 
 returns-2 : tie.Need-returns-2
 unfolding early verdict input-checks state-checks is-end effective
 returns-2 c =
     simp (
-      lt-leb 64 _ (c .before .before .if1 .left),
+      lt-leb role-count _ (c .before .before .if1 .left),
       lt-ltb _ 2 (c .before .if2 .taken),
     )
     (c .refuse2 .ensures)
@@ -29,7 +29,7 @@ returns-3 : tie.Need-returns-3
 unfolding early verdict input-checks state-checks is-end effective
 returns-3 c =
     simp (
-      lt-leb 64 _ (c .before .before .before .before .if1 .left),
+      lt-leb role-count _ (c .before .before .before .before .if1 .left),
       le-ltb _ 2 (c .before .before .before .if2 .left),
       place-found _ (c .before .before .end-in .ensures) (c .before .if3 .taken),
     )
@@ -39,7 +39,7 @@ returns-4 : tie.Need-returns-4
 unfolding early verdict input-checks state-checks is-end effective
 returns-4 c =
     simp (
-      lt-leb 64 _ (c .before .before .before .before .before .before .if1 .left),
+      lt-leb role-count _ (c .before .before .before .before .before .before .if1 .left),
       le-ltb _ 2 (c .before .before .before .before .before .if2 .left),
       place-none _ (c .before .before .before .before .end-in .ensures) (c .before .before .before .if3 .left),
       place-found _ (c .before .before .end-in2 .ensures) (c .before .if4 .taken),
@@ -50,7 +50,7 @@ returns-5 : tie.Need-returns-5
 unfolding early verdict input-checks state-checks is-end effective
 returns-5 c =
     simp (
-      lt-leb 64 _ (c .before .before .before .before .before .before .before .before .if1 .left),
+      lt-leb role-count _ (c .before .before .before .before .before .before .before .before .if1 .left),
       le-ltb _ 2 (c .before .before .before .before .before .before .before .if2 .left),
       place-none _ (c .before .before .before .before .before .before .end-in .ensures) (c .before .before .before .before .before .if3 .left),
       place-none _ (c .before .before .before .before .end-in2 .ensures) (c .before .before .before .if4 .left),
@@ -62,7 +62,7 @@ returns-6 : tie.Need-returns-6
 unfolding early verdict input-checks state-checks is-end effective read-verdict
 returns-6 c =
     simp (
-      lt-leb 64 _ (c .before .before .before .before .before .before .before .before .if1 .left),
+      lt-leb role-count _ (c .before .before .before .before .before .before .before .before .if1 .left),
       le-ltb _ 2 (c .before .before .before .before .before .before .before .if2 .left),
       place-none _ (c .before .before .before .before .before .before .end-in .ensures) (c .before .before .before .before .before .if3 .left),
       place-none _ (c .before .before .before .before .end-in2 .ensures) (c .before .before .before .if4 .left),

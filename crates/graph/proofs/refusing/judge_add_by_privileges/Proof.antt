@@ -1,7 +1,7 @@
 -- `refusing::judge_add_by_privileges` meets its contract: each return is the check that it stands for.
 -- Assumes nothing.
 use borrow.Author.Tests.{lt-ltb, le-ltb, le-leb, lt-leb}
-use Rattle.graph.specs.Graph.{is-end, effective}
+use Rattle.graph.specs.Graph.{role-count, is-end, effective}
 use Rattle.graph.specs.Refusing.{early, verdict, input-checks, state-checks}
 use Rattle.graph.specs.Reading.{read-verdict}
 use Rattle.graph.proofs.Judging.{present-by}
@@ -12,14 +12,14 @@ returns : tie.Need-returns
 unfolding early verdict input-checks state-checks is-end effective
 returns c =
     simp
-    (le-leb 64 _ (c .before .if1 .taken))
+    (le-leb role-count _ (c .before .if1 .taken))
     (c .refuse .ensures)
 
 returns-2 : tie.Need-returns-2
 unfolding early verdict input-checks state-checks is-end effective
 returns-2 c =
     simp (
-      lt-leb 64 _ (c .before .before .if1 .left),
+      lt-leb role-count _ (c .before .before .if1 .left),
       lt-ltb _ 2 (c .before .if2 .taken),
     )
     (c .refuse2 .ensures)
@@ -29,7 +29,7 @@ unfolding early verdict input-checks state-checks is-end effective
 returns-3 c =
     let sets = c .before .before .before .before .before .before .args .sets .now in
     simp (
-      lt-leb 64 _ (c .before .before .before .before .if1 .left),
+      lt-leb role-count _ (c .before .before .before .before .if1 .left),
       le-ltb _ 2 (c .before .before .before .if2 .left),
       present-by _ sets _ (c .before .before .is-present .ensures) (c .before .if3 .taken),
     )
@@ -40,7 +40,7 @@ unfolding early verdict input-checks state-checks is-end effective read-verdict
 returns-4 c =
     let sets = c .before .before .before .before .before .args .sets .now in
     simp (
-      lt-leb 64 _ (c .before .before .before .if1 .left),
+      lt-leb role-count _ (c .before .before .before .if1 .left),
       le-ltb _ 2 (c .before .before .if2 .left),
       present-by _ sets _ (c .before .is-present .ensures) (c .if3 .left),
     )

@@ -2,7 +2,7 @@
 -- Assumes nothing.
 use borrow.Author.Tests.{lt-ltb, le-ltb, le-leb, lt-leb, not-true, not-false}
 use mathlib.Core.Path.{sym, _∙_}
-use Rattle.graph.specs.Graph.{is-end}
+use Rattle.graph.specs.Graph.{role-count, is-end}
 use Rattle.graph.specs.Refusing.{verdict}
 use Rattle.graph.specs.Reading.{read-verdict}
 use Rattle.graph.proofs.refusing.judge_role.Statement.{statement}
@@ -12,14 +12,14 @@ returns : tie.Need-returns
 unfolding verdict is-end
 returns c =
     simp
-    (le-leb 64 _ (c .before .if1 .taken))
+    (le-leb role-count _ (c .before .if1 .taken))
     (c .refuse .ensures)
 
 returns-2 : tie.Need-returns-2
 unfolding verdict is-end
 returns-2 c =
     simp (
-      lt-leb 64 _ (c .before .before .before .if1 .left),
+      lt-leb role-count _ (c .before .before .before .if1 .left),
       lt-ltb _ 2 (c .before .if2 .taken),
     )
     (c .refuse2 .ensures)
@@ -28,7 +28,7 @@ returns-3 : tie.Need-returns-3
 unfolding verdict is-end
 returns-3 c =
     simp (
-      lt-leb 64 _ (c .before .before .before .before .before .if1 .left),
+      lt-leb role-count _ (c .before .before .before .before .before .if1 .left),
       le-ltb _ 2 (c .before .before .before .if2 .left),
       sym (c .before .before .is-present .ensures) ∙ not-true _ (c .before .if3 .taken),
     )
@@ -38,7 +38,7 @@ returns-4 : tie.Need-returns-4
 unfolding verdict is-end read-verdict
 returns-4 c =
     simp (
-      lt-leb 64 _ (c .before .before .before .before .if1 .left),
+      lt-leb role-count _ (c .before .before .before .before .if1 .left),
       le-ltb _ 2 (c .before .before .if2 .left),
       sym (c .before .is-present .ensures) ∙ not-false _ (c .if3 .left),
     )

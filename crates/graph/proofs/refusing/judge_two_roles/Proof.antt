@@ -2,7 +2,7 @@
 -- Assumes nothing.
 use mathlib.Core.Path.{sym, _∙_}
 use borrow.Author.Tests.{lt-ltb, le-ltb, le-leb, lt-leb, eq-eqb, ne-eqb, not-true, not-false}
-use Rattle.graph.specs.Graph.{is-end}
+use Rattle.graph.specs.Graph.{role-count, is-end}
 use Rattle.graph.specs.Refusing.{verdict}
 use Rattle.graph.specs.Reading.{read-verdict}
 use Rattle.graph.proofs.refusing.judge_two_roles.Statement.{statement}
@@ -12,15 +12,15 @@ returns : tie.Need-returns
 unfolding verdict is-end
 returns c =
     simp
-    (le-leb 64 _ (c .before .if1 .taken))
+    (le-leb role-count _ (c .before .if1 .taken))
     (c .refuse .ensures)
 
 returns-2 : tie.Need-returns-2
 unfolding verdict is-end
 returns-2 c =
     simp (
-      lt-leb 64 _ (c .before .before .if1 .left),
-      le-leb 64 _ (c .before .if2 .taken),
+      lt-leb role-count _ (c .before .before .if1 .left),
+      le-leb role-count _ (c .before .if2 .taken),
     )
     (c .refuse2 .ensures)
 
@@ -28,8 +28,8 @@ returns-3 : tie.Need-returns-3
 unfolding verdict is-end
 returns-3 c =
     simp (
-      lt-leb 64 _ (c .before .before .before .if1 .left),
-      lt-leb 64 _ (c .before .before .if2 .left),
+      lt-leb role-count _ (c .before .before .before .if1 .left),
+      lt-leb role-count _ (c .before .before .if2 .left),
       lt-ltb _ 2 (c .before .if3 .taken),
     )
     (c .refuse3 .ensures)
@@ -38,8 +38,8 @@ returns-4 : tie.Need-returns-4
 unfolding verdict is-end
 returns-4 c =
     simp (
-      lt-leb 64 _ (c .before .before .before .before .if1 .left),
-      lt-leb 64 _ (c .before .before .before .if2 .left),
+      lt-leb role-count _ (c .before .before .before .before .if1 .left),
+      lt-leb role-count _ (c .before .before .before .if2 .left),
       le-ltb _ 2 (c .before .before .if3 .left),
       lt-ltb _ 2 (c .before .if4 .taken),
     )
@@ -49,8 +49,8 @@ returns-5 : tie.Need-returns-5
 unfolding verdict is-end
 returns-5 c =
     simp (
-      lt-leb 64 _ (c .before .before .before .before .before .if1 .left),
-      lt-leb 64 _ (c .before .before .before .before .if2 .left),
+      lt-leb role-count _ (c .before .before .before .before .before .if1 .left),
+      lt-leb role-count _ (c .before .before .before .before .if2 .left),
       le-ltb _ 2 (c .before .before .before .if3 .left),
       le-ltb _ 2 (c .before .before .if4 .left),
       eq-eqb _ _ (c .before .if5 .taken),
@@ -61,8 +61,8 @@ returns-6 : tie.Need-returns-6
 unfolding verdict is-end
 returns-6 c =
     simp (
-      lt-leb 64 _ (c .before .before .before .before .before .before .before .if1 .left),
-      lt-leb 64 _ (c .before .before .before .before .before .before .if2 .left),
+      lt-leb role-count _ (c .before .before .before .before .before .before .before .if1 .left),
+      lt-leb role-count _ (c .before .before .before .before .before .before .if2 .left),
       le-ltb _ 2 (c .before .before .before .before .before .if3 .left),
       le-ltb _ 2 (c .before .before .before .before .if4 .left),
       ne-eqb _ _ (c .before .before .before .if5 .left),
@@ -74,8 +74,8 @@ returns-7 : tie.Need-returns-7
 unfolding verdict is-end
 returns-7 c =
     simp (
-      lt-leb 64 _ (c .before .before .before .before .before .before .before .before .before .if1 .left),
-      lt-leb 64 _ (c .before .before .before .before .before .before .before .before .if2 .left),
+      lt-leb role-count _ (c .before .before .before .before .before .before .before .before .before .if1 .left),
+      lt-leb role-count _ (c .before .before .before .before .before .before .before .before .if2 .left),
       le-ltb _ 2 (c .before .before .before .before .before .before .before .if3 .left),
       le-ltb _ 2 (c .before .before .before .before .before .before .if4 .left),
       ne-eqb _ _ (c .before .before .before .before .before .if5 .left),
@@ -88,8 +88,8 @@ returns-8 : tie.Need-returns-8
 unfolding verdict is-end read-verdict
 returns-8 c =
     simp (
-      lt-leb 64 _ (c .before .before .before .before .before .before .before .before .if1 .left),
-      lt-leb 64 _ (c .before .before .before .before .before .before .before .if2 .left),
+      lt-leb role-count _ (c .before .before .before .before .before .before .before .before .if1 .left),
+      lt-leb role-count _ (c .before .before .before .before .before .before .before .if2 .left),
       le-ltb _ 2 (c .before .before .before .before .before .before .if3 .left),
       le-ltb _ 2 (c .before .before .before .before .before .if4 .left),
       ne-eqb _ _ (c .before .before .before .before .if5 .left),

@@ -9,7 +9,7 @@ use Rattle.sets.specs.Sets.{member}
 use Rattle.graph.specs.Graph.{Graph, role-count}
 use Rattle.graph.specs.Refusing.{at-or-below}
 use Rattle.graph.specs.Reading.{drawn-from}
-use Rattle.graph.proofs.Searches.{Search, starts, visit-lt, hit, goes-on, falls, miss}
+use Rattle.graph.proofs.Searches.{Search, starts, hit, goes-on, falls, miss}
 use Rattle.graph.proofs.searching.circle_in.Statement.{statement}
 use Rattle.graph.proofs.searching.circle_in.Tie as tie
 
@@ -27,7 +27,7 @@ loop-holds : tie.Need-loop-holds Inv-loop μ-loop
 loop-holds c = starts role-count _ _ (search needs)
 
 cast-i : tie.Need-cast-i Inv-loop μ-loop
-cast-i c = let l = visit-lt (c .before .before .loop .inv) (c .before .loop-test .taken) (c .lowest-role .ensures) in search needs
+cast-i c = search needs
 
 returns : tie.Need-returns Inv-loop μ-loop
 returns c =

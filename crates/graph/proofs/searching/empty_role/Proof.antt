@@ -3,16 +3,15 @@
 use borrow.Author.Needs.{needs}
 use mathlib.Core.Bool.{Bool}
 use mathlib.Core.List.{List}
-use mathlib.Core.Path.{_≡_, sym, ap, _∙_}
-use Prim.Native.Nat.{ℕ, _<_}
+use mathlib.Core.Path.{_∙_}
+use Prim.Native.Nat.{ℕ}
 use lib.Dec.{eqb}
 use Rattle.sets.specs.Sets.{difference}
-use Rattle.sets.proofs.Laws.{difference-lt}
 use Rattle.graph.specs.Tables.{at}
 use Rattle.graph.specs.Graph.{role-count, effective}
 use Rattle.graph.specs.Refusing.{empty-role}
 use Rattle.graph.specs.Reading.{sets-in, drawn-from}
-use Rattle.graph.proofs.Searches.{Search, starts, visit-lt, hit, goes-on, falls, miss, among-ordinary}
+use Rattle.graph.proofs.Searches.{Search, read-test, starts-ordinary, hit, goes-on, falls, miss, among-ordinary}
 use Rattle.graph.proofs.searching.empty_role.Statement.{statement}
 use Rattle.graph.proofs.searching.empty_role.Tie as tie
 
@@ -27,24 +26,17 @@ abbrev μ-loop : tie.MeasureT-loop
 μ-loop roles sets rest₀ rest = rest
 
 loop-holds : tie.Need-loop-holds Inv-loop μ-loop
-loop-holds c = rw (c .ordinary-roles .ensures) (starts role-count _ _ (difference-lt role-count _ _ (search needs)))
-
-role-lt : (c : tie.After-lowest-role Inv-loop μ-loop) → c .lowest-role .result < role-count
-role-lt c = visit-lt (c .before .before .loop .inv) (c .before .loop-test .taken) (c .lowest-role .ensures)
+loop-holds c = starts-ordinary (search needs) (c .ordinary-roles .ensures)
 
 cast-i : tie.Need-cast-i Inv-loop μ-loop
-cast-i c = let l = role-lt c in search needs
-
--- What the test says of the entry that was read.
-tested : {s t : ℕ} {b d : Bool} → s ≡ t → b ≡ eqb s 0 → b ≡ d → eqb t 0 ≡ d
-tested e f z = ap (λ (i : ℕ). eqb i 0) (sym e) ∙ sym f ∙ z
+cast-i c = search needs
 
 returns : tie.Need-returns Inv-loop μ-loop
 unfolding effective empty-role
 returns c =
     let b = c .before .before .before in
     let a = b .before .before .before .before .before .args in
-    hit (b .before .before .loop .inv) (b .before .loop-test .taken) (b .lowest-role .ensures) (tested (c .before .before .entry .ensures) (c .before .is-empty .ensures) (c .if1 .taken))
+    hit (b .before .before .loop .inv) (b .before .loop-test .taken) (b .lowest-role .ensures) (read-test (λ i. eqb i 0) (c .before .before .entry .ensures) (c .before .is-empty .ensures) (c .if1 .taken))
     ∙ among-ordinary (drawn-from (a .roles) (a .sets .now)) _
 
 loop-less : tie.Need-loop-less Inv-loop μ-loop
@@ -55,7 +47,7 @@ loop-less c =
 loop-again : tie.Need-loop-again Inv-loop μ-loop
 loop-again c =
     let b = c .before .before .before .before in
-    goes-on (b .before .before .loop .inv) (b .before .loop-test .taken) (b .lowest-role .ensures) (c .without-lowest .ensures) (tested (c .before .before .before .entry .ensures) (c .before .before .is-empty .ensures) (c .before .if1 .left))
+    goes-on (b .before .before .loop .inv) (b .before .loop-test .taken) (b .lowest-role .ensures) (c .without-lowest .ensures) (read-test (λ i. eqb i 0) (c .before .before .before .entry .ensures) (c .before .before .is-empty .ensures) (c .before .if1 .left))
 
 returns-2 : tie.Need-returns-2 Inv-loop μ-loop
 unfolding effective empty-role

@@ -1,4 +1,4 @@
--- `graph::searching::lowest_role` meets its contract: the lowest member of a set of 64 digits, or 64, fits a byte.
+-- `graph::searching::lowest_role` meets its contract: the lowest member of a set of roles, or role-count, fits a byte.
 -- Assumes nothing.
 use borrow.Author.Needs.{needs}
 use native.Mathlib.Omega.{arith}

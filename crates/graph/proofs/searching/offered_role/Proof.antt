@@ -3,16 +3,15 @@
 use borrow.Author.Needs.{needs}
 use mathlib.Core.Bool.{Bool}
 use mathlib.Core.List.{List}
-use mathlib.Core.Path.{_≡_, _∙_, sym, ap}
-use Prim.Native.Nat.{ℕ, _<_}
+use mathlib.Core.Path.{_∙_}
+use Prim.Native.Nat.{ℕ}
 use Rattle.sets.specs.Sets.{difference}
-use Rattle.sets.proofs.Laws.{difference-lt}
 use Rattle.graph.specs.Tables.{at}
 use Rattle.graph.specs.Graph.{role-count, effective}
 use Rattle.graph.specs.Conflicts.{holds-both}
 use Rattle.graph.specs.Refusing.{offered-role}
 use Rattle.graph.specs.Reading.{sets-in, drawn-from}
-use Rattle.graph.proofs.Searches.{Search, starts, visit-lt, hit, goes-on, falls, miss, among-ordinary}
+use Rattle.graph.proofs.Searches.{Search, read-test, starts-ordinary, hit, goes-on, falls, miss, among-ordinary}
 use Rattle.graph.proofs.searching.offered_role.Statement.{statement}
 use Rattle.graph.proofs.searching.offered_role.Tie as tie
 
@@ -27,24 +26,17 @@ abbrev μ-loop : tie.MeasureT-loop
 μ-loop roles sets a b rest₀ rest = rest
 
 loop-holds : tie.Need-loop-holds Inv-loop μ-loop
-loop-holds c = rw (c .ordinary-roles .ensures) (starts role-count _ _ (difference-lt role-count _ _ (search needs)))
-
-role-lt : (c : tie.After-lowest-role Inv-loop μ-loop) → c .lowest-role .result < role-count
-role-lt c = visit-lt (c .before .before .loop .inv) (c .before .loop-test .taken) (c .lowest-role .ensures)
+loop-holds c = starts-ordinary (search needs) (c .ordinary-roles .ensures)
 
 cast-i : tie.Need-cast-i Inv-loop μ-loop
-cast-i c = let l = role-lt c in search needs
-
--- What the test says of the entry that was read.
-held : (a b : ℕ) {s t : ℕ} {x y : Bool} → s ≡ t → x ≡ holds-both a b s → x ≡ y → holds-both a b t ≡ y
-held a b e f z = ap (holds-both a b) (sym e) ∙ sym f ∙ z
+cast-i c = search needs
 
 returns : tie.Need-returns Inv-loop μ-loop
 unfolding effective offered-role
 returns c =
     let b = c .before .before .before in
     let a = b .before .before .before .before .before .args in
-    hit (b .before .before .loop .inv) (b .before .loop-test .taken) (b .lowest-role .ensures) (held _ _ (c .before .before .entry .ensures) (c .before .holds-both .ensures) (c .if1 .taken))
+    hit (b .before .before .loop .inv) (b .before .loop-test .taken) (b .lowest-role .ensures) (read-test (holds-both _ _) (c .before .before .entry .ensures) (c .before .holds-both .ensures) (c .if1 .taken))
     ∙ among-ordinary (drawn-from (a .roles) (a .sets .now)) _
 
 loop-less : tie.Need-loop-less Inv-loop μ-loop
@@ -56,7 +48,7 @@ loop-again : tie.Need-loop-again Inv-loop μ-loop
 loop-again c =
     let b = c .before .before .before .before in
     goes-on (b .before .before .loop .inv) (b .before .loop-test .taken) (b .lowest-role .ensures) (c .without-lowest .ensures)
-    (held _ _ (c .before .before .before .entry .ensures) (c .before .before .holds-both .ensures) (c .before .if1 .left))
+    (read-test (holds-both _ _) (c .before .before .before .entry .ensures) (c .before .before .holds-both .ensures) (c .before .if1 .left))
 
 returns-2 : tie.Need-returns-2 Inv-loop μ-loop
 unfolding effective offered-role

@@ -6,14 +6,13 @@ use mathlib.Core.List.{List}
 use mathlib.Core.Path.{_≡_, ap, _∙_, sym}
 use Prim.Native.Nat.{ℕ}
 use Rattle.sets.specs.Sets.{meets, difference}
-use Rattle.sets.proofs.Laws.{difference-lt}
 use Rattle.graph.specs.Tables.{at}
 use Rattle.graph.specs.Graph.{role-count, effective, privilege-count}
 use Rattle.graph.specs.Conflicts.{holds-pair}
 use Rattle.graph.specs.Refusing.{pair-role}
 use Rattle.graph.specs.Reading.{read-set, sets-in, graph-of}
 use Rattle.graph.proofs.Emptiness.{some-left, none-left}
-use Rattle.graph.proofs.Searches.{Search, starts, visit-lt, hit, any-hit, goes-on, falls, miss, any-miss, among-ordinary, has-partner, partner-test}
+use Rattle.graph.proofs.Searches.{Search, starts, starts-ordinary, hit, any-hit, goes-on, falls, miss, any-miss, among-ordinary, has-partner, partner-test}
 use Rattle.graph.proofs.searching.pair_role.Statement.{statement}
 use Rattle.graph.proofs.searching.pair_role.Tie as tie
 
@@ -34,10 +33,10 @@ abbrev μ-roles : tie.MeasureT-roles
 μ-roles roles sets conflicts place₀ rest₀ place rest = rest
 
 roles-holds : tie.Need-roles-holds Inv-loop μ-loop Inv-roles μ-roles
-roles-holds c = (search needs, rw (c .ordinary-roles .ensures) (starts role-count _ _ (difference-lt role-count _ _ (search needs))))
+roles-holds c = (search needs, starts-ordinary (search needs) (c .ordinary-roles .ensures))
 
 cast-i : tie.Need-cast-i Inv-loop μ-loop Inv-roles μ-roles
-cast-i c = let l = visit-lt (c .before .before .roles .inv .1) (c .before .roles-test .taken) (c .lowest-role .ensures) in search needs
+cast-i c = search needs
 
 loop-holds : tie.Need-loop-holds Inv-loop μ-loop Inv-roles μ-roles
 loop-holds c = (c .before .before .before .roles .inv .0, starts privilege-count _ _ (search needs))

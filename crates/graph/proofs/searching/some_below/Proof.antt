@@ -9,7 +9,7 @@ use Rattle.sets.specs.Sets.{member, intersection, union, difference}
 use Rattle.sets.proofs.Laws.{intersection-lt}
 use Rattle.graph.specs.Graph.{role-count, effective}
 use Rattle.graph.specs.Reading.{drawn-from}
-use Rattle.graph.proofs.Searches.{Search, starts, visit-lt, any-hit, goes-on, falls, any-miss, ways-below, way-to-max, way-from-min, way-inside, no-way, high, none-below, found-below}
+use Rattle.graph.proofs.Searches.{Search, starts, any-hit, goes-on, falls, any-miss, ways-below, way-to-max, way-from-min, way-inside, no-way, high, none-below, found-below}
 use Rattle.graph.proofs.searching.some_below.Statement.{statement}
 use Rattle.graph.proofs.searching.some_below.Tie as tie
 
@@ -40,7 +40,7 @@ raised c =
     sym (p .before .member .ensures ∙ ap (member _) (p .before .before .senior-roles .ensures)) ∙ not-false _ (p .if1 .left)
 
 cast-s : tie.Need-cast-s Inv-loop μ-loop
-cast-s c = let l = visit-lt (c .before .before .loop .inv) (c .before .loop-test .taken) (c .lowest-role .ensures) in search needs
+cast-s c = search needs
 
 returns-2 : tie.Need-returns-2 Inv-loop μ-loop
 unfolding effective

@@ -2,13 +2,11 @@
 -- Assumes nothing.
 use borrow.Author.Needs.{needs}
 use mathlib.Core.Path.{_∙_, sym}
-use Prim.Native.Nat.{_<_}
 use Rattle.sets.specs.Sets.{difference}
-use Rattle.sets.proofs.Laws.{difference-lt}
 use Rattle.graph.specs.Graph.{role-count, effective}
 use Rattle.graph.specs.Refusing.{twin-role}
 use Rattle.graph.specs.Reading.{drawn-from}
-use Rattle.graph.proofs.Searches.{Search, starts, visit-lt, hit, goes-on, falls, miss, among-ordinary, has-twin, twin-test}
+use Rattle.graph.proofs.Searches.{Search, starts-ordinary, hit, goes-on, falls, miss, among-ordinary, has-twin, twin-test}
 use Rattle.graph.proofs.searching.twin_role.Statement.{statement}
 use Rattle.graph.proofs.searching.twin_role.Tie as tie
 
@@ -19,13 +17,10 @@ abbrev μ-loop : tie.MeasureT-loop
 μ-loop roles sets rest₀ rest = rest
 
 loop-holds : tie.Need-loop-holds Inv-loop μ-loop
-loop-holds c = rw (c .ordinary-roles .ensures) (starts role-count _ _ (difference-lt role-count _ _ (search needs)))
-
-role-lt : (c : tie.After-lowest-role Inv-loop μ-loop) → c .lowest-role .result < role-count
-role-lt c = visit-lt (c .before .before .loop .inv) (c .before .loop-test .taken) (c .lowest-role .ensures)
+loop-holds c = starts-ordinary (search needs) (c .ordinary-roles .ensures)
 
 cast-i : tie.Need-cast-i Inv-loop μ-loop
-cast-i c = let l = role-lt c in search needs
+cast-i c = search needs
 
 returns : tie.Need-returns Inv-loop μ-loop
 unfolding effective twin-role

@@ -6,6 +6,7 @@ use Prim.Native.Nat.{_+_, _-_}
 use native.Mathlib.Omega.{arith}
 use lib.ListN.{replicate}
 use Rattle.graph.specs.Tables.{at}
+use Rattle.graph.specs.Graph.{role-count}
 use Rattle.graph.proofs.Loops.{Filled, filled-none, filled-next, filled-done}
 use Rattle.graph.specs.Reading.{sets-in}
 use Rattle.graph.proofs.PrivilegeTables.{whole-sets}
@@ -16,10 +17,10 @@ abbrev Inv-loop : tie.InvT-loop
 Inv-loop table all₀ i₀ all i = Filled (at (sets-in table)) i (sets-in all)
 
 abbrev μ-loop : tie.MeasureT-loop
-μ-loop table all₀ i₀ all i = 64 - i
+μ-loop table all₀ i₀ all i = role-count - i
 
 loop-holds : tie.Need-loop-holds Inv-loop μ-loop
-loop-holds c = filled-none _ _ (whole-sets (replicate 64 0) refl)
+loop-holds c = filled-none _ _ (whole-sets (replicate role-count 0) refl)
 
 slice-aggregate-store : tie.Need-slice-aggregate-store Inv-loop μ-loop
 unfolding sets-in
