@@ -31,7 +31,7 @@ pub fn ordinary_roles(roles: u64) -> u64
 }
 
 // The roles that can lie above another: the ordinary ones and MaxRole.
-pub fn senior_roles(roles: u64) -> u64
+pub(crate) fn senior_roles(roles: u64) -> u64
     ensures { λ v. ⌜ v ≡ union (difference roles 3) 2 ⌝ }
 {
     sets::union(ordinary_roles(roles), MAX_ROLE)
@@ -53,7 +53,7 @@ fn included_in(all: u64, sets: &[u64], top: PrivilegeSet) -> u64
 }
 
 // The roles below s: none for MinRole and for a number that is no role's.
-pub fn lower(roles: u64, sets: &[u64], s: usize) -> u64
+fn lower(roles: u64, sets: &[u64], s: usize) -> u64
     ensures { λ v. ⌜ v ≡ roles-below (drawn-from roles (now (sets .entry))) s ⌝ }
 {
     let ordinary = ordinary_roles(roles);
@@ -111,7 +111,7 @@ fn under_some(lower: &[u64; 64], all: u64) -> u64
 }
 
 // By role number, the immediate juniors of each role: the roles below it that lie below none of these.
-pub fn draw(roles: u64, sets: &[u64]) -> [u64; 64]
+pub(crate) fn draw(roles: u64, sets: &[u64]) -> [u64; 64]
     ensures { λ v. ⌜ v ≡ table role-count (juniors (drawn-from roles (now (sets .entry)))) ⌝ }
 {
     let lower = lowers(roles, sets);
@@ -181,7 +181,7 @@ pub fn is_below(roles: u64, sets: &[u64], r: Role, s: Role) -> bool
 }
 
 // Whether an edge is drawn from r to s: r is below s, and no role lies between.
-pub fn is_edge(roles: u64, sets: &[u64], r: Role, s: Role) -> bool
+pub(crate) fn is_edge(roles: u64, sets: &[u64], r: Role, s: Role) -> bool
     ensures { λ v. ⌜ v ≡ edge (drawn-from roles (now (sets .entry))) (r .0) (s .0) ⌝ }
 {
     let junior = r.0 as usize;
@@ -220,7 +220,7 @@ pub fn seniors_of(roles: u64, sets: &[u64], r: Role) -> u64
 }
 
 // The effective privileges of s.
-pub fn effective_of(sets: &[u64], s: Role) -> PrivilegeSet
+pub(crate) fn effective_of(sets: &[u64], s: Role) -> PrivilegeSet
     ensures { λ v. ⌜ read-set v ≡ at (sets-in (now (sets .entry))) (s .0) ⌝ }
 {
     entry(sets, s.0 as usize)
@@ -245,7 +245,7 @@ pub fn direct_of(roles: u64, sets: &[u64], s: Role) -> PrivilegeSet
 }
 
 // Whether the privilege is direct in s; what s does not hold is not, whatever its juniors have.
-pub fn is_direct(roles: u64, sets: &[u64], s: Role, privilege: Privilege) -> bool
+pub(crate) fn is_direct(roles: u64, sets: &[u64], s: Role, privilege: Privilege) -> bool
     ensures { λ v. ⌜ v ≡ member (privilege .0) (direct (drawn-from roles (now (sets .entry))) (s .0)) ⌝ }
 {
     if !privileges::member(privilege, effective_of(sets, s)) {

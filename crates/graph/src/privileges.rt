@@ -8,14 +8,14 @@ use crate::Privilege;
 use crate::PrivilegeSet;
 
 // The set without members.
-pub fn empty() -> PrivilegeSet
+pub(crate) fn empty() -> PrivilegeSet
     ensures { λ r. ⌜ read-set r ≡ spec.empty ⌝ }
 {
     PrivilegeSet { word: 0 }
 }
 
 // The set whose only member is p; for a number that is no privilege's the empty set.
-pub fn single(p: Privilege) -> PrivilegeSet
+pub(crate) fn single(p: Privilege) -> PrivilegeSet
     ensures { λ r. ⌜ read-set r ≡ spec.when (ltb (p .0) privilege-count) (spec.single (p .0)) ⌝ }
 {
     PrivilegeSet {
@@ -31,7 +31,7 @@ pub fn member(p: Privilege, s: PrivilegeSet) -> bool
 }
 
 // The members of s and those of t.
-pub fn union(s: PrivilegeSet, t: PrivilegeSet) -> PrivilegeSet
+pub(crate) fn union(s: PrivilegeSet, t: PrivilegeSet) -> PrivilegeSet
     ensures { λ r. ⌜ read-set r ≡ spec.union (read-set s) (read-set t) ⌝ }
 {
     PrivilegeSet {
@@ -40,7 +40,7 @@ pub fn union(s: PrivilegeSet, t: PrivilegeSet) -> PrivilegeSet
 }
 
 // The members of s that are no members of t.
-pub fn difference(s: PrivilegeSet, t: PrivilegeSet) -> PrivilegeSet
+pub(crate) fn difference(s: PrivilegeSet, t: PrivilegeSet) -> PrivilegeSet
     ensures { λ r. ⌜ read-set r ≡ spec.difference (read-set s) (read-set t) ⌝ }
 {
     PrivilegeSet {
@@ -49,14 +49,14 @@ pub fn difference(s: PrivilegeSet, t: PrivilegeSet) -> PrivilegeSet
 }
 
 // Whether s and t have a member in common.
-pub fn meets(s: PrivilegeSet, t: PrivilegeSet) -> bool
+pub(crate) fn meets(s: PrivilegeSet, t: PrivilegeSet) -> bool
     ensures { λ r. ⌜ r ≡ spec.meets (read-set s) (read-set t) ⌝ }
 {
     sets::meets(s.word, t.word)
 }
 
 // Whether the two sets are the same.
-pub fn equal(s: PrivilegeSet, t: PrivilegeSet) -> bool
+pub(crate) fn equal(s: PrivilegeSet, t: PrivilegeSet) -> bool
     ensures { λ r. ⌜ r ≡ eqb (read-set s) (read-set t) ⌝ }
 {
     s.word == t.word
@@ -70,35 +70,28 @@ pub fn included(s: PrivilegeSet, t: PrivilegeSet) -> bool
 }
 
 // Whether every member of s is one of t, and the two differ.
-pub fn strictly_included(s: PrivilegeSet, t: PrivilegeSet) -> bool
+pub(crate) fn strictly_included(s: PrivilegeSet, t: PrivilegeSet) -> bool
     ensures { λ r. ⌜ r ≡ spec.strictly-included (read-set s) (read-set t) ⌝ }
 {
     sets::strictly_included(s.word, t.word)
 }
 
 // Whether s has no members.
-pub fn is_empty(s: PrivilegeSet) -> bool
+pub(crate) fn is_empty(s: PrivilegeSet) -> bool
     ensures { λ r. ⌜ r ≡ eqb (read-set s) spec.empty ⌝ }
 {
     sets::is_empty(s.word)
 }
 
-// How many members s has.
-pub fn size(s: PrivilegeSet) -> u32
-    ensures { λ r. ⌜ r ≡ spec.size privilege-count (read-set s) ⌝ }
-{
-    sets::size(s.word)
-}
-
 // The lowest member of s; of the empty set the number of privileges.
-pub fn lowest_member(s: PrivilegeSet) -> u32
+pub(crate) fn lowest_member(s: PrivilegeSet) -> u32
     ensures { λ r. ⌜ r ≡ spec.lowest-member privilege-count (read-set s) ⌝ }
 {
     sets::lowest_member(s.word)
 }
 
 // The set without its lowest member; of the empty set the empty set.
-pub fn without_lowest(s: PrivilegeSet) -> PrivilegeSet
+pub(crate) fn without_lowest(s: PrivilegeSet) -> PrivilegeSet
     ensures { λ r. ⌜ read-set r ≡ spec.without-lowest privilege-count (read-set s) ⌝ }
 {
     PrivilegeSet {
@@ -107,7 +100,7 @@ pub fn without_lowest(s: PrivilegeSet) -> PrivilegeSet
 }
 
 // s where the test passes, and the empty set where it does not.
-pub fn when(c: bool, s: PrivilegeSet) -> PrivilegeSet
+pub(crate) fn when(c: bool, s: PrivilegeSet) -> PrivilegeSet
     ensures { λ r. ⌜ read-set r ≡ spec.when c (read-set s) ⌝ }
 {
     PrivilegeSet {
@@ -116,7 +109,7 @@ pub fn when(c: bool, s: PrivilegeSet) -> PrivilegeSet
 }
 
 // The members of s, and p; for a number that is no privilege's those of s alone.
-pub fn insert(s: PrivilegeSet, p: Privilege) -> PrivilegeSet
+pub(crate) fn insert(s: PrivilegeSet, p: Privilege) -> PrivilegeSet
     ensures { λ r. ⌜ read-set r ≡ spec.union (read-set s) (spec.when (ltb (p .0) privilege-count) (spec.single (p .0))) ⌝ }
 {
     PrivilegeSet {
@@ -125,7 +118,7 @@ pub fn insert(s: PrivilegeSet, p: Privilege) -> PrivilegeSet
 }
 
 // The members of s but p.
-pub fn remove(s: PrivilegeSet, p: Privilege) -> PrivilegeSet
+pub(crate) fn remove(s: PrivilegeSet, p: Privilege) -> PrivilegeSet
     ensures { λ r. ⌜ read-set r ≡ spec.difference (read-set s) (spec.when (ltb (p .0) privilege-count) (spec.single (p .0))) ⌝ }
 {
     PrivilegeSet {

@@ -233,7 +233,7 @@ fn judge_remove_edge(roles: u64, sets: &[u64], a: Role, b: Role) -> Verdict
 }
 
 // What refuses a change before closing, if anything does.
-pub fn judge(roles: u64, sets: &[u64], change: Change) -> Verdict
+pub(crate) fn judge(roles: u64, sets: &[u64], change: Change) -> Verdict
     ensures { λ v. ⌜ read-verdict v ≡ early (drawn-from roles (now (sets .entry))) (read-change change) ⌝ }
 {
     match change {

@@ -121,7 +121,7 @@ pub fn holds_both(a: Privilege, b: Privilege, s: PrivilegeSet) -> bool
 }
 
 // The lowest ordinary role that holds both privileges of the pair offered.
-pub fn offered_role(roles: u64, sets: &[u64], a: Privilege, b: Privilege) -> u8
+pub(crate) fn offered_role(roles: u64, sets: &[u64], a: Privilege, b: Privilege) -> u8
     ensures { λ r. ⌜ r ≡ lowest role-count (offered-role (drawn-from roles (now (sets .entry))) (a .0) (b .0)) ⌝ }
 {
     let mut rest = ordinary_roles(roles);
@@ -137,14 +137,14 @@ pub fn offered_role(roles: u64, sets: &[u64], a: Privilege, b: Privilege) -> u8
 }
 
 // The lowest end role of a set.
-pub fn end_in(s: u64) -> u8
+pub(crate) fn end_in(s: u64) -> u8
     ensures { λ r. ⌜ r ≡ lowest role-count (λ n. is-end n && member n s) ⌝ }
 {
     lowest_role(sets::intersection(END_ROLES, s))
 }
 
 // The lowest role of a set that is absent.
-pub fn absent_in(roles: u64, s: u64) -> u8
+pub(crate) fn absent_in(roles: u64, s: u64) -> u8
     ensures { λ r. ⌜ r ≡ lowest role-count (λ n. member n s && not (present (drawn-from roles []) n)) ⌝ }
 {
     lowest_role(sets::difference(s, sets::union(END_ROLES, roles)))
@@ -177,7 +177,7 @@ fn circle_at(roles: u64, sets: &[u64], seniors: u64, j: usize) -> bool
 }
 
 // The lowest junior that some senior is or lies below.
-pub fn circle_in(roles: u64, sets: &[u64], juniors: u64, seniors: u64) -> u8
+pub(crate) fn circle_in(roles: u64, sets: &[u64], juniors: u64, seniors: u64) -> u8
     ensures { λ r. ⌜ r ≡ lowest role-count (λ j. member j juniors && any role-count (λ s. member s seniors && at-or-below (drawn-from roles (now (sets .entry))) s j)) ⌝ }
 {
     let mut rest = juniors;

@@ -10,7 +10,7 @@ use crate::PrivilegeSet;
 use crate::privileges;
 
 // The words of a table with a set of privileges for each role.
-pub type SetTable = [u64; 64];
+pub(crate) type SetTable = [u64; 64];
 
 // Entry n of a table of privilege sets; beyond its end the empty set.
 pub fn entry(table: &[u64], n: usize) -> PrivilegeSet
