@@ -2,10 +2,10 @@
 ghost use mathlib.Core.Path.{_≡_};
 ghost use mathlib.Core.Bool.{cond, _&&_};
 ghost use mathlib.Core.List.{[], _∷_};
-ghost use Prim.Native.Nat.{_≤_};
+ghost use Prim.Native.Nat.{_≤_, min};
 ghost use lib.ListN.{length, getD};
 ghost use lib.Dec.{leb};
-ghost use Rattle.graph.specs.Reading.{read-set, read-change};
+ghost use Rattle.graph.specs.Reading.{read-set, read-removal, read-change};
 ghost use Rattle.seats.specs.Bytes.{number-at};
 ghost use Rattle.seats.specs.Calls.{change};
 ghost use Rattle.seats.specs.Records.{malformed, well-formed, all-empty, kinds, decode};
@@ -23,6 +23,7 @@ use crate::endian::word;
 use graph::Change;
 use graph::Privilege;
 use graph::PrivilegeSet;
+use graph::Removal;
 use graph::Role;
 use graph::privileges;
 
@@ -78,6 +79,17 @@ fn decoded_request(b: u8, rest: bool, request: Request) -> Decoded
     formed(b, 255, rest, Call::Request(request))
 }
 
+// What a removal's b says of the role's direct privileges; no well-formed record has more than 1.
+fn removal(b: u8) -> Removal
+    ensures { λ r. ⌜ read-removal r ≡ min b 1 ⌝ }
+{
+    if b == 0 {
+        Removal::Dropped
+    } else {
+        Removal::HandedUp
+    }
+}
+
 // What a kind makes of the fields beside it.
 fn named(kind: u8, a: u8, b: u8, own: PrivilegeSet, y: u64, z: u64) -> Decoded
     ensures { λ r. ⌜ read-decoded r ≡ getD (malformed ∷ kinds (fields-of a b (read-set own) y z)) kind malformed ⌝ }
@@ -91,7 +103,7 @@ fn named(kind: u8, a: u8, b: u8, own: PrivilegeSet, y: u64, z: u64) -> Decoded
             unused(privileges::empty(), y, z),
             Change::AddByPrivileges(Role(a), own),
         ),
-        3 => decoded_change(b, 1, none, Change::RemoveRole(Role(a), b)),
+        3 => decoded_change(b, 1, none, Change::RemoveRole(Role(a), removal(b))),
         4 => decoded_change(b, 255, none, Change::Grant(Role(a), Privilege(b))),
         5 => decoded_change(b, 255, none, Change::Withdraw(Role(a), Privilege(b))),
         6 => decoded_change(b, 255, none, Change::AddEdge(Role(a), Role(b))),

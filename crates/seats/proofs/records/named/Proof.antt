@@ -5,7 +5,7 @@ use mathlib.Core.Path.{refl, _∙_}
 use Rattle.graph.specs.Reading.{read-change}
 use Rattle.seats.specs.Records.{all-empty, unused, kinds}
 use Rattle.seats.specs.Reading.{read-request, read-decoded}
-use Rattle.seats.proofs.Decoding.{at-kind, unknown-kind}
+use Rattle.seats.proofs.Decoding.{at-kind, at-removal, unknown-kind}
 use Rattle.seats.proofs.records.named.Statement.{statement}
 use Rattle.seats.proofs.records.named.Tie as tie
 
@@ -19,7 +19,7 @@ returns-2 c = rw (c .before .before .before .match .keys2) (c .decoded-change2 .
 
 returns-3 : tie.Need-returns-3
 unfolding kinds unused all-empty read-change
-returns-3 c = rw (c .before .match .keys3) (c .decoded-change3 .ensures ∙ at-kind _ 1 0 _ (c .before .before .unused .ensures))
+returns-3 c = rw (c .before .before .match .keys3) (c .decoded-change3 .ensures ∙ at-removal _ (c .before .removal .ensures) (c .before .before .before .unused .ensures))
 
 returns-4 : tie.Need-returns-4
 unfolding kinds unused all-empty read-change
