@@ -3,17 +3,16 @@
 use mathlib.Core.Path.{_≡_, refl, sym, ap, ap₂, _∙_}
 use mathlib.Core.Bool.{Bool, true, false, cond, not, _&&_}
 use mathlib.Core.List.{List, [], _∷_, _++_}
-use Prim.Native.Nat.{ℕ, _<_, _≤_}
-use borrow.Author.Tests.{lt-ltb, le-ltb}
-use lib.Dec.{ltb}
+use Prim.Native.Nat.{ℕ}
 use Rattle.sets.specs.Counting.{any, lowest}
 use Rattle.sets.specs.Sets.{member}
 use Rattle.graph.specs.Graph.{Graph, role-count, present}
 use Rattle.graph.specs.Refusing.{Check, Verdict, passed, refused, verdict, keep}
-use Rattle.graph.specs.Reading.{drawn-from, read-verdict}
+use Rattle.graph.specs.Searching.{Found, nothing, found, first}
+use Rattle.graph.specs.Reading.{drawn-from, read-verdict, read-found}
 use Rattle.graph.specs.declared.Refusal.{Refusal}
 use Rattle.graph.specs.declared.Verdict.the-variants.{the-data, Passed, Refused}
-use Rattle.graph.proofs.Searches.{found-test}
+use Rattle.graph.specs.declared.Found.the-variants as founds
 
 -- The first check holds, or the others decide.
 module _ (c : Check) (l : List Check) where
@@ -86,16 +85,40 @@ unfolding present
 present-by roles sets r e t = sym e ∙ t
 
 -- So does a search among the absent roles.
-pub absent-by : (roles : ℕ) (sets : List ℕ) (s : ℕ) {p : ℕ} → p ≡ lowest role-count (λ n. member n s && not (present (drawn-from roles []) n))
-    → p ≡ lowest role-count (λ n. member n s && not (present (drawn-from roles sets) n))
+pub absent-by : (roles : ℕ) (sets : List ℕ) (s : ℕ) {x : Found} → x ≡ first role-count (λ n. member n s && not (present (drawn-from roles []) n))
+    → x ≡ first role-count (λ n. member n s && not (present (drawn-from roles sets) n))
 unfolding present
 absent-by roles sets s e = e
 
 -- ---- places
--- A search found a place, or gave the number beyond all of them.
-module _ {k p : ℕ} (f : ℕ → Bool) (e : p ≡ lowest k f) where
-  pub place-found : p < k → any k f ≡ true
-  place-found l = sym (found-test k f) ∙ ap (λ (n : ℕ). ltb n k) (sym e) ∙ lt-ltb p k l
+is-found : Found → Bool
+is-found nothing = false
+is-found (found p) = true
 
-  pub place-none : k ≤ p → any k f ≡ false
-  place-none l = sym (found-test k f) ∙ ap (λ (n : ℕ). ltb n k) (sym e) ∙ le-ltb p k l
+place-of : Found → ℕ
+place-of nothing = 0
+place-of (found p) = p
+
+some-passes : (k : ℕ) (f : ℕ → Bool) → is-found (first k f) ≡ any k f
+unfolding is-found first
+some-passes k f = go (any k f)
+  where
+    go : (b : Bool) → is-found (cond b (found (lowest k f)) nothing) ≡ b
+    go true = refl
+    go false = refl
+
+-- A search found a place, the lowest that passes, or nothing.
+module _ (k : ℕ) (f : ℕ → Bool) {x : founds.the-data} (e : read-found x ≡ first k f) where
+  pub place-found : {p : ℕ} → x ≡ founds.At p → any k f ≡ true
+  unfolding is-found read-found
+  place-found d = sym (ap is-found e ∙ some-passes k f) ∙ ap (λ (y : founds.the-data). is-found (read-found y)) d
+
+  pub place-none : x ≡ founds.Nothing → any k f ≡ false
+  unfolding is-found read-found
+  place-none d = sym (ap is-found e ∙ some-passes k f) ∙ ap (λ (y : founds.the-data). is-found (read-found y)) d
+
+  pub place-lowest : {p : ℕ} → x ≡ founds.At p → p ≡ lowest k f
+  unfolding place-of read-found first
+  place-lowest d =
+      sym (ap (λ (y : founds.the-data). place-of (read-found y)) d) ∙ ap place-of e
+      ∙ ap (λ (b : Bool). place-of (cond b (found (lowest k f)) nothing)) (place-found d)

@@ -1,10 +1,10 @@
 -- What the loops of `searching` keep while they visit the members of a set, lowest first, and what they find.
 -- Assumes nothing.
 use mathlib.Core.Path.{_≡_, refl, sym, ap, ap₂, _∙_, subst}
-use mathlib.Core.Bool.{Bool, true, false, not, _&&_, _||_, or-true}
+use mathlib.Core.Bool.{Bool, true, false, cond, not, _&&_, _||_, or-true}
 use mathlib.Core.Logic.{_≢_, inl, inr}
 use mathlib.Core.List.{List}
-use Prim.Native.Nat.{ℕ, _<_, _≤_, _^_}
+use Prim.Native.Nat.{ℕ, _<_, _^_}
 use native.Mathlib.Decide.{decLt}
 use native.Mathlib.Omega.{arith}
 use borrow.Author.Tests.{eq-eqb, ne-eqb}
@@ -12,38 +12,45 @@ use lib.Dec.{T, T-not, not-T, eqb, ltb, ltb→lt, lt→ltb}
 use Rattle.sets.specs.Counting.{any, lowest}
 use Rattle.sets.specs.Sets.{member, single, union, intersection, meets, difference, strictly-included, lowest-member, without-lowest}
 use Rattle.sets.proofs.Tests.{both, join, either, or-left, or-right, same-test, passes, fails, decide, so, equal-test, test-equal, and-regroup}
-use Rattle.sets.proofs.Counting.{any-some, some-any, any-cong, lowest-lt, lowest-none, lowest-cong}
+use Rattle.sets.proofs.Counting.{any-some, some-any, any-cong, lowest-lt, lowest-cong}
 use Rattle.sets.proofs.Laws.{member-lt, member-intersection, intersection-lt, difference-lt}
 use Rattle.sets.proofs.Members.{in-intersection, intersection-in, in-empty, no-members}
-use Rattle.sets.proofs.Walks.{Searched, search-none, search-next, search-found, search-done, visited, visited-none, visited-next, member-next, lowest-in, lowest-of}
+use Rattle.sets.proofs.Walks.{Searched, search-none, search-next, search-found, search-done, visited, visited-none, visited-next, member-next, lowest-in, lowest-below, lowest-of}
 use Rattle.sets.proofs.Walks as Walks
 use Rattle.graph.specs.Tables.{at}
 use Rattle.graph.specs.Graph.{Graph, role-count, min-role, max-role, ordinary, effective}
 use Rattle.graph.specs.Conflicts.{conflict}
 use Rattle.graph.specs.Drawing.{below}
 use Rattle.graph.specs.Refusing.{at-or-below}
+use Rattle.graph.specs.Searching.{nothing, found, first}
 use Rattle.graph.proofs.DrawingCode.{ordinary-member, member-with, below-tests}
 use Rattle.graph.proofs.Loops.{Left, left-all, left-lowest, left-falls}
 
--- The lowest number that passes is below k where some number below k passes.
-pub found-test : (k : ℕ) (f : ℕ → Bool) → ltb (lowest k f) k ≡ any k f
-found-test k f = same-test (ltb (lowest k f) k) (any k f) there (λ t. lt→ltb (lowest k f) k (lowest-lt k f t))
-  where
-    there : T (ltb (lowest k f) k) → T (any k f)
-    there t =
-        elim (decide (any k f)) [
-          | inl s ↦ s
-          | inr d ↦ absurd (let l = ltb→lt (lowest k f) k t in let e = lowest-none k f d in omega arith)
-        ]
+-- ---- what a search finds
+-- The lowest number that passes is found.
+pub first-is : (k : ℕ) (f : ℕ → Bool) {i : ℕ} → i < k → T (f i) → i ≡ lowest k f → found i ≡ first k f
+unfolding first
+first-is k f {i} l t e = ap found e ∙ sym (rw (passes (any k f) (some-any k f i l t)))
 
--- The lowest member of a set is a role's number, or role-count.
-pub lowest-bound : (s : ℕ) → lowest-member role-count s ≤ role-count
+-- Where none passes, nothing is found.
+pub first-none : (k : ℕ) (f : ℕ → Bool) → any k f ≡ false → nothing ≡ first k f
+unfolding first
+first-none k f e = sym (rw e)
+
+pub first-cong : (k : ℕ) (f g : ℕ → Bool) → ((i : ℕ) → i < k → f i ≡ g i) → first k f ≡ first k g
+unfolding first
+first-cong k f g h = ap₂ (λ (t : Bool) (p : ℕ). cond t (found p) nothing) (any-cong k f g h) (lowest-cong k f g h)
+
+-- The lowest member of a set that has one is found in it.
+pub first-member : (w s : ℕ) → s < 2 ^ w → s ≢ 0 → found (lowest-member w s) ≡ first w (λ n. member n s)
 unfolding lowest-member
-lowest-bound s =
-    elim (decide (any role-count (λ n. member n s))) [
-      | inl t ↦ (let l = lowest-lt role-count (λ n. member n s) t in omega arith)
-      | inr d ↦ (let e = lowest-none role-count (λ n. member n s) d in omega arith)
-    ]
+first-member w s h some = first-is w (λ n. member n s) (lowest-below w s h some) (lowest-in w s h some) refl
+
+-- The empty set has no member to be found.
+pub first-empty : (w : ℕ) {s : ℕ} → s ≡ 0 → nothing ≡ first w (λ n. member n s)
+first-empty w {s} e =
+    first-none w (λ n. member n s)
+    (fails (any w (λ n. member n s)) (λ t. let (n, _, m) = any-some w (λ n. member n s) t in in-empty n (subst (λ (i : ℕ). T (member n i)) e m)))
 
 -- ---- two sets
 -- Some number below w is in both sets.
@@ -96,8 +103,10 @@ module _ {w : ℕ} {f : ℕ → Bool} {all rest : ℕ} (s : Search w f all rest)
   visit-in = s .left .within r visit-rest
 
   -- It passes, and is the lowest that does.
-  pub hit : f r ≡ true → r ≡ lowest w (λ n. member n all && f n)
-  hit t = e ∙ sym (search-found f w all rest (s .left .fits) some (s .left .within) (s .searched) (ap f (sym e) ∙ t))
+  pub hit : f r ≡ true → found r ≡ first w (λ n. member n all && f n)
+  hit t =
+      first-is w (λ n. member n all && f n) visit-lt (join (member r all) (f r) visit-in (rw t tt))
+      (e ∙ sym (search-found f w all rest (s .left .fits) some (s .left .within) (s .searched) (ap f (sym e) ∙ t)))
 
   pub any-hit : f r ≡ true → true ≡ any w (λ n. member n all && f n)
   any-hit t =
@@ -169,24 +178,32 @@ module _ {w : ℕ} {f : ℕ → Bool} {all rest : ℕ} (s : Search w f all rest)
 
 -- Nothing is left, and nothing passes.
 module _ {w : ℕ} {f : ℕ → Bool} {all rest : ℕ} (s : Search w f all rest) (z : rest ≡ 0) where
-  pub miss : w ≡ lowest w (λ n. member n all && f n)
-  miss = sym (search-done f w all (subst (λ (i : ℕ). Searched f all i) z (s .searched)))
-
   pub any-miss : false ≡ any w (λ n. member n all && f n)
   any-miss =
       sym
       (fails (any w (λ n. member n all && f n))
-      (λ t. let l = lowest-lt w (λ n. member n all && f n) t in let e = miss in omega arith))
+      (λ t.
+      let l = lowest-lt w (λ n. member n all && f n) t in
+      let e = search-done f w all (subst (λ (i : ℕ). Searched f all i) z (s .searched)) in
+      omega arith))
+
+  pub miss : nothing ≡ first w (λ n. member n all && f n)
+  miss = first-none w (λ n. member n all && f n) (sym any-miss)
 
 -- ---- ordinary roles
 -- A search among the ordinary roles starts with all of them.
 pub starts-ordinary : {f : ℕ → Bool} {roles all : ℕ} → roles < 2 ^ role-count → all ≡ difference roles 3 → Search role-count f (difference roles 3) all
 starts-ordinary {f} {roles} h e = rw e (starts role-count f (difference roles 3) (difference-lt role-count roles 3 h))
 
-pub among-ordinary : (g : Graph) (f : ℕ → Bool) → lowest role-count (λ n. member n (difference (g .roles) 3) && f n) ≡ lowest role-count (λ n. ordinary g n && f n)
-among-ordinary g f =
-    lowest-cong role-count (λ n. member n (difference (g .roles) 3) && f n) (λ n. ordinary g n && f n)
-    (λ n _. ap (λ (b : Bool). b && f n) (ordinary-member g n))
+module _ (g : Graph) (f : ℕ → Bool) where
+  passes-ordinary : (n : ℕ) → member n (difference (g .roles) 3) && f n ≡ ordinary g n && f n
+  passes-ordinary n = ap (λ (b : Bool). b && f n) (ordinary-member g n)
+
+  pub among-ordinary : first role-count (λ n. member n (difference (g .roles) 3) && f n) ≡ first role-count (λ n. ordinary g n && f n)
+  among-ordinary = first-cong role-count _ _ (λ n _. passes-ordinary n)
+
+  pub any-ordinary : any role-count (λ n. member n (difference (g .roles) 3) && f n) ≡ any role-count (λ n. ordinary g n && f n)
+  any-ordinary = any-cong role-count _ _ (λ n _. passes-ordinary n)
 
 -- ---- twins
 -- Another ordinary role has the same set as r.

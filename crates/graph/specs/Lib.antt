@@ -5,6 +5,7 @@ pub mod Drawing
 pub mod Closing
 pub mod Editing
 pub mod Refusing
+pub mod Searching
 pub mod Reading
 pub mod Working
 pub mod Invariants

@@ -1,4 +1,4 @@
--- How the code's values are read as the paper's: sets, graphs, verdicts and changes.
+-- How the code's values are read as the paper's: sets, graphs, verdicts, what searches find, and changes.
 use mathlib.Core.List.{List, []}
 use Prim.Native.Nat.{ℕ}
 use lib.ListN.{replicate}
@@ -6,9 +6,12 @@ use Rattle.sets.specs.Sets.{empty}
 use Rattle.graph.specs.Graph.{Graph, role-count}
 use Rattle.graph.specs.Editing.{Change, add-by-place, add-by-privileges, remove-role, grant, withdraw, add-edge, remove-edge}
 use Rattle.graph.specs.Refusing.{Verdict, passed, refused}
+use Rattle.graph.specs.Searching.{Found, nothing, found}
 use Rattle.graph.specs.declared.PrivilegeSet as privilege-set-struct
 use Rattle.graph.specs.declared.Verdict as verdict-enum
 use Rattle.graph.specs.declared.Verdict.the-variants as verdicts
+use Rattle.graph.specs.declared.Found as found-enum
+use Rattle.graph.specs.declared.Found.the-variants as founds
 use Rattle.graph.specs.declared.Removal as removal-enum
 use Rattle.graph.specs.declared.Removal.the-variants as removals
 use Rattle.graph.specs.declared.Change as change-enum
@@ -38,6 +41,11 @@ graph-of roles sets conflicts = record { roles = roles; sets = sets-in sets; con
 unfoldable pub read-verdict : verdict-enum.Verdict → Verdict
 read-verdict verdicts.Passed = passed
 read-verdict (verdicts.Refused r) = refused (r .number) (r .place)
+
+-- What a search finds.
+unfoldable pub read-found : found-enum.Found → Found
+read-found founds.Nothing = nothing
+read-found (founds.At n) = found n
 
 -- A removal's b: 0 where the direct privileges are dropped, 1 where they go to the immediate seniors.
 unfoldable pub read-removal : removal-enum.Removal → ℕ

@@ -10,6 +10,7 @@ ghost use Rattle.graph.specs.Conflicts as spec;
 ghost use Rattle.graph.specs.Refusing.{no-privilege-number, pair-of-one, verdict, declare-checks, lift-checks};
 ghost use Rattle.graph.specs.Reading.{read-set, sets-in, graph-of, read-verdict};
 use crate::ConflictEntry;
+use crate::Found;
 use crate::Privilege;
 use crate::Verdict;
 use crate::privileges;
@@ -77,9 +78,9 @@ pub fn judge_declare<'a>(
     if is_declared(conflicts, a, b) {
         return refuse(22, a.0);
     }
-    let place = offered_role(roles, sets, a, b);
-    if place < 64 {
-        return refuse(29, place);
+    let offered = offered_role(roles, sets, a, b);
+    if let Found::At(role) = offered {
+        return refuse(29, role);
     }
     Verdict::Passed
 }

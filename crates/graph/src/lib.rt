@@ -47,6 +47,12 @@ pub enum Verdict {
     Refused(Refusal),
 }
 
+// What a search finds: nothing, or a number.
+pub enum Found {
+    Nothing,
+    At(u8),
+}
+
 // What becomes of the direct privileges of a role that is removed: they are dropped, or go to its immediate seniors.
 pub enum Removal {
     Dropped,

@@ -9,6 +9,7 @@ ghost use Rattle.graph.specs.Editing.{add-by-place, add-by-privileges, g
 ghost use Rattle.graph.specs.Refusing.{no-role-number, no-privilege-number, end-role, edge-to-itself, role-absent, refused, verdict, early, state-checks, still-below, closed-checks};
 ghost use Rattle.graph.specs.Reading.{read-set, sets-in, drawn-from, graph-of, read-verdict, read-change};
 use crate::Change;
+use crate::Found;
 use crate::Privilege;
 use crate::PrivilegeSet;
 use crate::Refusal;
@@ -54,12 +55,12 @@ fn judge_add_by_place(
         return refuse(3, r);
     }
     let low = searching::end_in(juniors);
-    if low < 64 {
-        return refuse(3, low);
+    if let Found::At(role) = low {
+        return refuse(3, role);
     }
     let high = searching::end_in(seniors);
-    if high < 64 {
-        return refuse(3, high);
+    if let Found::At(role) = high {
+        return refuse(3, role);
     }
     if in_either(r, juniors, seniors) {
         return refuse(5, r);
@@ -75,16 +76,16 @@ fn judge_placing(roles: u64, sets: &[u64], r: u8, juniors: u64, seniors: u64) ->
         return refuse(20, r);
     }
     let low = searching::absent_in(roles, juniors);
-    if low < 64 {
-        return refuse(21, low);
+    if let Found::At(role) = low {
+        return refuse(21, role);
     }
     let high = searching::absent_in(roles, seniors);
-    if high < 64 {
-        return refuse(21, high);
+    if let Found::At(role) = high {
+        return refuse(21, role);
     }
-    let place = searching::circle_in(roles, sets, juniors, seniors);
-    if place < 64 {
-        return refuse(25, place);
+    let circle = searching::circle_in(roles, sets, juniors, seniors);
+    if let Found::At(role) = circle {
+        return refuse(25, role);
     }
     Verdict::Passed
 }
@@ -266,16 +267,16 @@ fn judge_sets<'a>(roles: u64, sets: &'a [u64], conflicts: &'a [u64]) -> Verdict
     ensures { λ r. ⌜ read-verdict r ≡ verdict (closed-checks (graph-of roles (now (sets .entry)) (now (conflicts .entry)))) ⌝ }
 {
     let empty = searching::empty_role(roles, sets);
-    if empty < 64 {
-        return refuse(27, empty);
+    if let Found::At(role) = empty {
+        return refuse(27, role);
     }
     let twin = searching::twin_role(roles, sets);
-    if twin < 64 {
-        return refuse(28, twin);
+    if let Found::At(role) = twin {
+        return refuse(28, role);
     }
     let pair = searching::pair_role(roles, sets, conflicts);
-    if pair < 64 {
-        return refuse(29, pair);
+    if let Found::At(role) = pair {
+        return refuse(29, role);
     }
     Verdict::Passed
 }

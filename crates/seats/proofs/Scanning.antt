@@ -6,8 +6,11 @@ use Prim.Native.Nat.{ℕ, _+_, _<_, _≤_}
 use native.Mathlib.Decide.{ℕ-discrete}
 use native.Mathlib.Omega.{arith}
 use lib.Dec.{T}
-use Rattle.sets.specs.Counting.{lowest}
-use Rattle.sets.proofs.Counting.{any-some, lowest-is, lowest-none}
+use Rattle.sets.specs.Counting.{any}
+use Rattle.sets.proofs.Tests.{fails}
+use Rattle.sets.proofs.Counting.{any-some, lowest-is}
+use Rattle.graph.specs.Searching.{nothing, found, first}
+use Rattle.graph.proofs.Searches.{first-is, first-none}
 
 -- No number below i passes.
 pub record Scanned (f : ℕ → Bool) (n i : ℕ) : Type 0 where
@@ -29,10 +32,12 @@ scanned-next {f} {n} {i} s l e = record {
 }
 
 -- The first that passes is the lowest.
-pub scanned-hit : {f : ℕ → Bool} {n i : ℕ} → Scanned f n i → i < n → f i ≡ true → i ≡ lowest n f
-scanned-hit {f} {n} {i} s l e = sym (lowest-is n f i l (subst T (sym e) tt) (λ j k t. subst T (s .none j k) t))
+pub scanned-hit : {f : ℕ → Bool} {n i : ℕ} → Scanned f n i → i < n → f i ≡ true → found i ≡ first n f
+scanned-hit {f} {n} {i} s l e =
+    let t = subst T (sym e) tt in
+    first-is n f l t (sym (lowest-is n f i l t (λ j k t. subst T (s .none j k) t)))
 
--- Where none passed, the search gives n.
-pub scanned-miss : {f : ℕ → Bool} {n i : ℕ} → Scanned f n i → n ≤ i → n ≡ lowest n f
+-- Where none passed, nothing is found.
+pub scanned-miss : {f : ℕ → Bool} {n i : ℕ} → Scanned f n i → n ≤ i → nothing ≡ first n f
 scanned-miss {f} {n} {i} s l =
-    sym (lowest-none n f (λ t. let (j, k, x) = any-some n f t in subst T (s .none j (omega arith)) x))
+    first-none n f (fails (any n f) (λ t. let (j, k, x) = any-some n f t in subst T (s .none j (omega arith)) x))

@@ -20,6 +20,7 @@ use crate::answers::refusal;
 use crate::searches;
 use crate::seating;
 use graph::Change;
+use graph::Found;
 use graph::Privilege;
 use graph::Refusal;
 use graph::Role;
@@ -55,9 +56,9 @@ fn decide_declare<'a>(
     match verdict {
         Verdict::Refused(found) => unchanged(Answer::Refused(found)),
         Verdict::Passed => {
-            let place = searches::offered_seat(sets, seats, a, b);
-            if place < 64 {
-                return unchanged(refusal(30, place));
+            let offered = searches::offered_seat(sets, seats, a, b);
+            if let Found::At(holder) = offered {
+                return unchanged(refusal(30, holder));
             }
             let entry = declaring::with_conflict(conflicts, a, b);
             Decision {
@@ -123,9 +124,9 @@ fn decide_assign<'a>(
             if sets::member(r, own) {
                 return unchanged(refusal(22, a.0));
             }
-            let place = searches::pair_seat_after(sets, conflicts, seats, a, b);
-            if place < 64 {
-                return unchanged(refusal(30, place));
+            let pair = searches::pair_seat_after(sets, conflicts, seats, a, b);
+            if let Found::At(holder) = pair {
+                return unchanged(refusal(30, holder));
             }
             let roles = sets::insert(own, r);
             let entry = SeatEntry { seat, roles };
@@ -195,9 +196,9 @@ fn judge_held(roles: u64, seats: &[u64], a: Role) -> Verdict
     let Verdict::Passed = named else {
         return named;
     };
-    let place = searches::seat_with_role(seats, a);
-    if place < 64 {
-        return refuse(24, place);
+    let assigned = searches::seat_with_role(seats, a);
+    if let Found::At(seat) = assigned {
+        return refuse(24, seat);
     }
     Verdict::Passed
 }
@@ -226,9 +227,9 @@ fn judge_after<'a>(
     match verdict {
         Verdict::Refused(_) => verdict,
         Verdict::Passed => {
-            let place = searches::pair_seat(sets, conflicts, seats);
-            if place < 64 {
-                return refuse(30, place);
+            let pair = searches::pair_seat(sets, conflicts, seats);
+            if let Found::At(holder) = pair {
+                return refuse(30, holder);
             }
             verdict
         }

@@ -4,7 +4,7 @@ ghost use mathlib.Core.Bool.{not, cond, false, _&&_, _||_};
 ghost use Prim.Native.Nat.{ℕ, _+_, _*_, _≤_};
 ghost use lib.ListN.{length};
 ghost use lib.Dec.{eqb, leb, ltb};
-ghost use Rattle.sets.specs.Counting.{lowest};
+ghost use Rattle.sets.specs.Counting.{any};
 ghost use Rattle.sets.specs.Sets.{empty, included};
 ghost use Rattle.graph.specs.Graph.{role-count, privilege-count, max-role, is-end, ordinary, effective};
 ghost use Rattle.graph.specs.Refusing.{passed, verdict};
@@ -36,6 +36,7 @@ use crate::image::distance;
 use crate::image::width;
 use crate::searches::pair_seat;
 use crate::tape::fresh;
+use graph::Found;
 use graph::Privilege;
 use graph::Refusal;
 use graph::Verdict;
@@ -276,42 +277,43 @@ fn read_contents(bytes: &[u8], at: usize, counts: Counts) -> Contents
     }
 }
 
-// The lowest ordinary role with a privilege that MaxRole lacks; 64 where there is none.
-fn lacking_role(roles: u64, sets: &[u64]) -> usize
-    ensures { λ r. let g = drawn-from roles (now (sets .entry)) in ⌜ r ≡ lowest role-count (λ r. ordinary g r && not (included (effective g r) (effective g max-role))) ⌝ }
+// Whether MaxRole lacks a privilege of some ordinary role.
+fn max_lacks(roles: u64, sets: &[u64]) -> bool
+    ensures { λ r. let g = drawn-from roles (now (sets .entry)) in ⌜ r ≡ any role-count (λ r. ordinary g r && not (included (effective g r) (effective g max-role))) ⌝ }
 {
     let top = entry(sets, 1);
     let mut rest = ordinary_roles(roles);
     while rest != 0 {
         let r = sets::lowest_member(rest) as usize;
         if !privileges::included(entry(sets, r), top) {
-            return r;
+            return true;
         }
         rest = sets::without_lowest(rest);
     }
-    64
+    false
 }
 
 // Whether no condition of refusal 8 holds of a state, tested in their order.
 fn is_sound<'a>(roles: u64, sets: &'a [u64], conflicts: &'a [u64], seats: &'a [u64]) -> bool
     ensures { λ r. ⌜ verdict (content-checks (state-of roles (now (sets .entry)) (now (conflicts .entry)) (now (seats .entry)))) ≡ cond r passed (refusing.refused 8 0) ⌝ }
 {
-    if empty_role(roles, sets) < 64 {
+    let empty = empty_role(roles, sets);
+    let Found::Nothing = empty else {
         return false;
-    }
-    if twin_role(roles, sets) < 64 {
+    };
+    let twin = twin_role(roles, sets);
+    let Found::Nothing = twin else {
         return false;
-    }
-    if pair_role(roles, sets, conflicts) < 64 {
+    };
+    let pair = pair_role(roles, sets, conflicts);
+    let Found::Nothing = pair else {
         return false;
-    }
-    if pair_seat(sets, conflicts, seats) < 64 {
+    };
+    let seat = pair_seat(sets, conflicts, seats);
+    let Found::Nothing = seat else {
         return false;
-    }
-    if lacking_role(roles, sets) < 64 {
-        return false;
-    }
-    true
+    };
+    !max_lacks(roles, sets)
 }
 
 // The distance in the trailer.

@@ -4,29 +4,29 @@ use mathlib.Core.Bool.{Bool, not, _&&_, _||_}
 use mathlib.Core.List.{[]}
 use mathlib.Core.Path.{_≡_, ap, _∙_}
 use Prim.Native.Nat.{ℕ}
-use Rattle.sets.specs.Counting.{lowest}
-use Rattle.sets.specs.Sets.{member, union, difference, lowest-member}
-use Rattle.sets.proofs.Counting.{lowest-cong}
+use Rattle.sets.specs.Sets.{member, union, difference}
 use Rattle.sets.proofs.Laws.{member-union, member-difference}
 use Rattle.graph.specs.Graph.{role-count, present}
 use Rattle.graph.specs.Reading.{drawn-from}
+use Rattle.graph.specs.Searching.{first}
 use Rattle.graph.proofs.DrawingCode.{member-ends}
+use Rattle.graph.proofs.Searches.{first-cong}
 use Rattle.graph.proofs.searching.absent_in.Statement.{statement}
 use Rattle.graph.proofs.searching.absent_in.Tie as tie
 
-lowest-absent : (roles s : ℕ) → lowest-member role-count (difference s (union 3 roles)) ≡ lowest role-count (λ n. member n s && not (present (drawn-from roles []) n))
-unfolding lowest-member present
-lowest-absent roles s =
-    lowest-cong role-count (λ n. member n (difference s (union 3 roles))) (λ n. member n s && not (present (drawn-from roles []) n))
+first-absent : (roles s : ℕ) → first role-count (λ n. member n (difference s (union 3 roles))) ≡ first role-count (λ n. member n s && not (present (drawn-from roles []) n))
+unfolding present
+first-absent roles s =
+    first-cong role-count (λ n. member n (difference s (union 3 roles))) (λ n. member n s && not (present (drawn-from roles []) n))
     (λ n _.
     member-difference n s (union 3 roles)
     ∙ ap (λ (b : Bool). member n s && not b) (member-union n 3 roles ∙ ap (λ (b : Bool). b || member n roles) (member-ends n)))
 
 returns : tie.Need-returns
 returns c =
-    c .lowest-role .ensures
-    ∙ ap (lowest-member role-count) (c .before .difference .ensures ∙ ap (difference _) (c .before .before .union .ensures))
-    ∙ lowest-absent (c .before .before .before .args .roles) (c .before .before .before .args .s)
+    c .lowest-in .ensures
+    ∙ ap (λ (s : ℕ). first role-count (λ n. member n s)) (c .before .difference .ensures ∙ ap (difference _) (c .before .before .union .ensures))
+    ∙ first-absent (c .before .before .before .args .roles) (c .before .before .before .args .s)
 
 pub absent-in-spec : {M : Type 1} → statement M
 absent-in-spec = tie.close (tie.spec (λ c κs. tt) (λ c κs. tt) (λ c κs. tt) returns)

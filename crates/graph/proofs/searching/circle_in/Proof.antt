@@ -8,7 +8,7 @@ use Rattle.sets.specs.Counting.{any}
 use Rattle.sets.specs.Sets.{member}
 use Rattle.graph.specs.Graph.{Graph, role-count}
 use Rattle.graph.specs.Refusing.{at-or-below}
-use Rattle.graph.specs.Reading.{drawn-from}
+use Rattle.graph.specs.Reading.{drawn-from, read-found}
 use Rattle.graph.proofs.Searches.{Search, starts, hit, goes-on, falls, miss}
 use Rattle.graph.proofs.searching.circle_in.Statement.{statement}
 use Rattle.graph.proofs.searching.circle_in.Tie as tie
@@ -30,6 +30,7 @@ cast-i : tie.Need-cast-i Inv-loop μ-loop
 cast-i c = search needs
 
 returns : tie.Need-returns Inv-loop μ-loop
+unfolding read-found
 returns c =
     let b = c .before .before in
     hit (b .before .before .loop .inv) (b .before .loop-test .taken) (b .lowest-role .ensures) (sym (c .before .circle-at .ensures) ∙ c .if1 .taken)
@@ -46,6 +47,7 @@ loop-again c =
     (sym (c .before .before .circle-at .ensures) ∙ c .before .if1 .left)
 
 returns-2 : tie.Need-returns-2 Inv-loop μ-loop
+unfolding read-found
 returns-2 c = miss (c .before .loop .inv) (c .loop-test .left)
 
 pub circle-in-spec : {M : Type 1} → statement M
@@ -55,7 +57,7 @@ circle-in-spec =
     Inv-loop
     μ-loop
     loop-holds
-    (λ c κs. tt)
+    (λ c κs. c .loop-test .taken)
     cast-i
     (λ c κs. tt)
     returns

@@ -10,7 +10,7 @@ use Rattle.sets.specs.Sets.{difference}
 use Rattle.graph.specs.Tables.{at}
 use Rattle.graph.specs.Graph.{role-count, effective}
 use Rattle.graph.specs.Refusing.{empty-role}
-use Rattle.graph.specs.Reading.{sets-in, drawn-from}
+use Rattle.graph.specs.Reading.{sets-in, drawn-from, read-found}
 use Rattle.graph.proofs.Searches.{Search, read-test, starts-ordinary, hit, goes-on, falls, miss, among-ordinary}
 use Rattle.graph.proofs.searching.empty_role.Statement.{statement}
 use Rattle.graph.proofs.searching.empty_role.Tie as tie
@@ -32,7 +32,7 @@ cast-i : tie.Need-cast-i Inv-loop μ-loop
 cast-i c = search needs
 
 returns : tie.Need-returns Inv-loop μ-loop
-unfolding effective empty-role
+unfolding effective empty-role read-found
 returns c =
     let b = c .before .before .before in
     let a = b .before .before .before .before .before .args in
@@ -50,7 +50,7 @@ loop-again c =
     goes-on (b .before .before .loop .inv) (b .before .loop-test .taken) (b .lowest-role .ensures) (c .without-lowest .ensures) (read-test (λ i. eqb i 0) (c .before .before .before .entry .ensures) (c .before .before .is-empty .ensures) (c .before .if1 .left))
 
 returns-2 : tie.Need-returns-2 Inv-loop μ-loop
-unfolding effective empty-role
+unfolding effective empty-role read-found
 returns-2 c =
     let a = c .before .before .before .before .args in
     miss (c .before .loop .inv) (c .loop-test .left) ∙ among-ordinary (drawn-from (a .roles) (a .sets .now)) _
@@ -63,7 +63,7 @@ empty-role-spec =
     μ-loop
     (λ c κs. tt)
     loop-holds
-    (λ c κs. tt)
+    (λ c κs. c .loop-test .taken)
     cast-i
     (λ c κs. tt)
     (λ c κs. tt)

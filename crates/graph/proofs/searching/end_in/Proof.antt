@@ -3,23 +3,22 @@
 use mathlib.Core.Bool.{Bool, _&&_}
 use mathlib.Core.Path.{_≡_, ap, _∙_}
 use Prim.Native.Nat.{ℕ}
-use Rattle.sets.specs.Counting.{lowest}
-use Rattle.sets.specs.Sets.{member, intersection, lowest-member}
-use Rattle.sets.proofs.Counting.{lowest-cong}
+use Rattle.sets.specs.Sets.{member, intersection}
 use Rattle.sets.proofs.Laws.{member-intersection}
 use Rattle.graph.specs.Graph.{role-count, is-end}
+use Rattle.graph.specs.Searching.{first}
 use Rattle.graph.proofs.DrawingCode.{member-ends}
+use Rattle.graph.proofs.Searches.{first-cong}
 use Rattle.graph.proofs.searching.end_in.Statement.{statement}
 use Rattle.graph.proofs.searching.end_in.Tie as tie
 
-lowest-end : (s : ℕ) → lowest-member role-count (intersection 3 s) ≡ lowest role-count (λ n. is-end n && member n s)
-unfolding lowest-member
-lowest-end s =
-    lowest-cong role-count (λ n. member n (intersection 3 s)) (λ n. is-end n && member n s)
+first-end : (s : ℕ) → first role-count (λ n. member n (intersection 3 s)) ≡ first role-count (λ n. is-end n && member n s)
+first-end s =
+    first-cong role-count (λ n. member n (intersection 3 s)) (λ n. is-end n && member n s)
     (λ n _. member-intersection n 3 s ∙ ap (λ (b : Bool). b && member n s) (member-ends n))
 
 returns : tie.Need-returns
-returns c = c .lowest-role .ensures ∙ ap (lowest-member role-count) (c .before .intersection .ensures) ∙ lowest-end (c .before .before .args .s)
+returns c = c .lowest-in .ensures ∙ ap (λ (s : ℕ). first role-count (λ n. member n s)) (c .before .intersection .ensures) ∙ first-end (c .before .before .args .s)
 
 pub end-in-spec : {M : Type 1} → statement M
 end-in-spec = tie.close (tie.spec (λ c κs. tt) (λ c κs. tt) returns)

@@ -55,7 +55,7 @@ has-set-spec =
     Inv-loop
     μ-loop
     loop-holds
-    (λ c κs. tt)
+    (λ c κs. c .loop-test .taken)
     cast-i
     (λ c κs. tt)
     (λ c κs. tt)

@@ -1,13 +1,16 @@
--- `graph::searching::lowest_role` meets its contract: the lowest member of a set of roles, or role-count, fits a byte.
+-- `graph::searching::lowest_role` meets its contract: the lowest member of a set of roles fits a byte.
 -- Assumes nothing.
 use borrow.Author.Needs.{needs}
 use native.Mathlib.Omega.{arith}
-use Rattle.graph.proofs.Searches.{lowest-bound}
+use Rattle.sets.proofs.Walks.{lowest-below}
+use Rattle.graph.specs.Graph.{role-count}
 use Rattle.graph.proofs.searching.lowest_role.Statement.{statement}
 use Rattle.graph.proofs.searching.lowest_role.Tie as tie
 
 cast-result : tie.Need-cast-result
-cast-result c = record { fits = omega (arith, lowest-bound (c .before .args .s), c .lowest-member .ensures) }
+cast-result c =
+    let l = lowest-below role-count (c .before .args .s) (search needs) (c .before .pre) in
+    record { fits = omega (arith, l, c .lowest-member .ensures) }
 
 returns : tie.Need-returns
 returns c = search needs

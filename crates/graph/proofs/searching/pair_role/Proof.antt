@@ -3,14 +3,15 @@
 use borrow.Author.Needs.{needs}
 use mathlib.Core.Bool.{Bool}
 use mathlib.Core.List.{List}
-use mathlib.Core.Path.{_≡_, ap, _∙_, sym}
+use mathlib.Core.Path.{_≡_, refl, ap, _∙_, sym}
 use Prim.Native.Nat.{ℕ}
 use Rattle.sets.specs.Sets.{meets, difference}
 use Rattle.graph.specs.Tables.{at}
 use Rattle.graph.specs.Graph.{role-count, effective, privilege-count}
 use Rattle.graph.specs.Conflicts.{holds-pair}
 use Rattle.graph.specs.Refusing.{pair-role}
-use Rattle.graph.specs.Reading.{read-set, sets-in, graph-of}
+use Rattle.graph.specs.Searching.{nothing}
+use Rattle.graph.specs.Reading.{read-set, sets-in, graph-of, read-found}
 use Rattle.graph.proofs.Emptiness.{some-left, none-left}
 use Rattle.graph.proofs.Searches.{Search, starts, starts-ordinary, hit, any-hit, goes-on, falls, miss, any-miss, among-ordinary, has-partner, partner-test}
 use Rattle.graph.proofs.searching.pair_role.Statement.{statement}
@@ -21,19 +22,20 @@ abbrev pair-at : List ℕ → List ℕ → ℕ → Bool
 pair-at sets conflicts r = holds-pair conflicts (at sets r)
 
 abbrev Inv-loop : tie.InvT-loop
-Inv-loop roles sets conflicts place₀ rest r i left₀ place left = (place ≡ role-count) × Search privilege-count (has-partner privilege-count (sets-in conflicts) (read-set left₀)) (read-set left₀) (read-set left)
+Inv-loop roles sets conflicts found₀ rest r i left₀ result left = (read-found result ≡ nothing) × Search privilege-count (has-partner privilege-count (sets-in conflicts) (read-set left₀)) (read-set left₀) (read-set left)
 
 abbrev μ-loop : tie.MeasureT-loop
-μ-loop roles sets conflicts place₀ rest r i left₀ place left = read-set left
+μ-loop roles sets conflicts found₀ rest r i left₀ result left = read-set left
 
 abbrev Inv-roles : tie.InvT-roles
-Inv-roles roles sets conflicts place₀ rest₀ place rest = (place ≡ role-count) × Search role-count (pair-at (sets-in sets) (sets-in conflicts)) (difference roles 3) rest
+Inv-roles roles sets conflicts found₀ rest₀ result rest = (read-found result ≡ nothing) × Search role-count (pair-at (sets-in sets) (sets-in conflicts)) (difference roles 3) rest
 
 abbrev μ-roles : tie.MeasureT-roles
-μ-roles roles sets conflicts place₀ rest₀ place rest = rest
+μ-roles roles sets conflicts found₀ rest₀ result rest = rest
 
 roles-holds : tie.Need-roles-holds Inv-loop μ-loop Inv-roles μ-roles
-roles-holds c = (search needs, starts-ordinary (search needs) (c .ordinary-roles .ensures))
+unfolding read-found
+roles-holds c = (refl, starts-ordinary (search needs) (c .ordinary-roles .ensures))
 
 cast-i : tie.Need-cast-i Inv-loop μ-loop Inv-roles μ-roles
 cast-i c = search needs
@@ -76,14 +78,14 @@ roles-again c =
     )
 
 returns : tie.Need-returns Inv-loop μ-loop Inv-roles μ-roles
-unfolding effective pair-role
+unfolding effective pair-role read-found
 returns c =
     let a = c .before .before .before .before .before .args in
     let (z, s) = c .before .roles .inv in
     z ∙ miss s (c .roles-test .left) ∙ among-ordinary (graph-of (a .roles) (a .sets .now) (a .conflicts .now)) _
 
 returns-2 : tie.Need-returns-2 Inv-loop μ-loop Inv-roles μ-roles
-unfolding effective holds-pair pair-role
+unfolding effective holds-pair pair-role read-found
 returns-2 c =
     let b = c .before .before .before in
     let l = b .before .before .before in
@@ -107,7 +109,7 @@ pair-role-spec =
     μ-roles
     (λ c κs. tt)
     roles-holds
-    (λ c κs. tt)
+    (λ c κs. c .roles-test .taken)
     cast-i
     (λ c κs. tt)
     loop-holds

@@ -94,7 +94,7 @@ some-below-spec =
     (λ c κs. tt)
     (λ c κs. tt)
     loop-holds
-    (λ c κs. tt)
+    (λ c κs. c .loop-test .taken)
     cast-s
     (λ c κs. tt)
     (λ c κs. tt)

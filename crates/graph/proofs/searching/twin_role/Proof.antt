@@ -5,7 +5,7 @@ use mathlib.Core.Path.{_∙_, sym}
 use Rattle.sets.specs.Sets.{difference}
 use Rattle.graph.specs.Graph.{role-count, effective}
 use Rattle.graph.specs.Refusing.{twin-role}
-use Rattle.graph.specs.Reading.{drawn-from}
+use Rattle.graph.specs.Reading.{drawn-from, read-found}
 use Rattle.graph.proofs.Searches.{Search, starts-ordinary, hit, goes-on, falls, miss, among-ordinary, has-twin, twin-test}
 use Rattle.graph.proofs.searching.twin_role.Statement.{statement}
 use Rattle.graph.proofs.searching.twin_role.Tie as tie
@@ -23,7 +23,7 @@ cast-i : tie.Need-cast-i Inv-loop μ-loop
 cast-i c = search needs
 
 returns : tie.Need-returns Inv-loop μ-loop
-unfolding effective twin-role
+unfolding effective twin-role read-found
 returns c =
     let b = c .before .before .before in
     let s = b .before .before .before .loop .inv in
@@ -48,7 +48,7 @@ loop-again c =
     goes-on s some e d (sym (twin-test _ s some e d) ∙ sym (c .before .has-set .ensures ∙ rw (c .before .before .entry .ensures)) ∙ c .if1 .left)
 
 returns-2 : tie.Need-returns-2 Inv-loop μ-loop
-unfolding twin-role
+unfolding twin-role read-found
 returns-2 c = miss (c .before .loop .inv) (c .loop-test .left) ∙ among-ordinary _ _
 
 pub twin-role-spec : {M : Type 1} → statement M
@@ -59,7 +59,7 @@ twin-role-spec =
     μ-loop
     (λ c κs. tt)
     loop-holds
-    (λ c κs. tt)
+    (λ c κs. c .loop-test .taken)
     cast-i
     (λ c κs. tt)
     (λ c κs. tt)

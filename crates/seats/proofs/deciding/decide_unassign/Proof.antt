@@ -11,7 +11,7 @@ use Rattle.graph.specs.Graph.{present}
 use Rattle.graph.specs.Tables.{take-out}
 use Rattle.graph.specs.Reading.{read-verdict}
 use Rattle.graph.proofs.Judging.{stops, moves-on, ends, refused-first, passed-first}
-use Rattle.seats.specs.Seats.{State, assigned}
+use Rattle.seats.specs.Seats.{assigned}
 use Rattle.seats.specs.Calls.{Answer, seat-role-checks, accepted, unassign, checks, after, reply, with-seats}
 use Rattle.seats.specs.Reading.{state-of, read-answer, stored}
 use Rattle.seats.proofs.Settling.{refused-by, passed-by}

@@ -8,7 +8,7 @@ use mathlib.Core.Path.{sym, ap, _∙_}
 use Prim.Native.Nat.{ℕ, _-_}
 use Rattle.graph.specs.Graph.{effective}
 use Rattle.graph.specs.Conflicts.{holds-both}
-use Rattle.graph.specs.Reading.{sets-in}
+use Rattle.graph.specs.Reading.{sets-in, read-found}
 use Rattle.seats.specs.Seats.{seat-count, assigned, held, offered-seat}
 use Rattle.seats.specs.Reading.{state-of}
 use Rattle.seats.proofs.Requests.{joint, none-both}
@@ -33,7 +33,7 @@ cast-roles-at : tie.Need-cast-roles-at Inv-loop μ-loop
 cast-roles-at c = search needs
 
 returns : tie.Need-returns Inv-loop μ-loop
-unfolding offered-seat held assigned effective
+unfolding offered-seat held assigned effective read-found
 returns c =
     let o = c .before .before .before .before in
     let t = o .before in
@@ -59,6 +59,7 @@ loop-again c =
     ])
 
 returns-2 : tie.Need-returns-2 Inv-loop μ-loop
+unfolding read-found
 returns-2 c = scanned-miss (c .before .loop .inv) (c .loop-test .left)
 
 pub offered-seat-spec : {M : Type 1} → statement M

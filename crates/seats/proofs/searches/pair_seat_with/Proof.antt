@@ -10,7 +10,7 @@ use lib.Dec.{eqb}
 use Rattle.sets.specs.Sets.{union, when}
 use Rattle.graph.specs.Tables.{at}
 use Rattle.graph.specs.Conflicts.{holds-pair}
-use Rattle.graph.specs.Reading.{sets-in}
+use Rattle.graph.specs.Reading.{sets-in, read-found}
 use Rattle.seats.specs.Seats.{seat-count}
 use Rattle.seats.proofs.Requests.{joint, none-pair}
 use Rattle.seats.proofs.Scanning.{Scanned, scanned-none, scanned-next, scanned-hit, scanned-miss}
@@ -41,6 +41,7 @@ owned : (c : tie.After-union Inv-loop μ-loop) →
 owned c = c .union .ensures ∙ ap₂ union (c .before .before .roles-at .ensures) (c .before .when .ensures)
 
 returns : tie.Need-returns Inv-loop μ-loop
+unfolding read-found
 returns c =
     let u = c .before .before .before .before in
     let t = u .before .before .before in
@@ -65,6 +66,7 @@ loop-again c =
     ])
 
 returns-2 : tie.Need-returns-2 Inv-loop μ-loop
+unfolding read-found
 returns-2 c = scanned-miss (c .before .loop .inv) (c .loop-test .left)
 
 pub pair-seat-with-spec : {M : Type 1} → statement M

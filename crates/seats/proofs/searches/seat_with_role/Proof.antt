@@ -7,6 +7,7 @@ use mathlib.Core.Path.{sym, ap, _∙_}
 use Prim.Native.Nat.{ℕ, _-_}
 use Rattle.sets.specs.Sets.{member}
 use Rattle.graph.specs.Tables.{at}
+use Rattle.graph.specs.Reading.{read-found}
 use Rattle.seats.specs.Seats.{seat-count}
 use Rattle.seats.proofs.Scanning.{Scanned, scanned-none, scanned-next, scanned-hit, scanned-miss}
 use Rattle.seats.proofs.searches.seat_with_role.Statement.{statement}
@@ -32,6 +33,7 @@ cast-roles-at : tie.Need-cast-roles-at Inv-loop μ-loop
 cast-roles-at c = search needs
 
 returns : tie.Need-returns Inv-loop μ-loop
+unfolding read-found
 returns c =
     let t = c .before .before .before in
     scanned-hit (t .before .loop .inv) (t .loop-test .taken) (ap (member _) (sym (c .before .before .roles-at .ensures)) ∙ sym (c .before .member .ensures) ∙ c .if1 .taken)
@@ -48,6 +50,7 @@ loop-again c =
     scanned-next (t .before .loop .inv) (t .loop-test .taken) (ap (member _) (sym (c .before .before .roles-at .ensures)) ∙ sym (c .before .member .ensures) ∙ c .if1 .left)
 
 returns-2 : tie.Need-returns-2 Inv-loop μ-loop
+unfolding read-found
 returns-2 c = scanned-miss (c .before .loop .inv) (c .loop-test .left)
 
 pub seat-with-role-spec : {M : Type 1} → statement M

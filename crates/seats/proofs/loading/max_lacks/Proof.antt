@@ -1,19 +1,18 @@
--- `seats::loading::lacking_role` meets its contract: it searches the ordinary roles for one that holds a privilege which MaxRole lacks.
+-- `seats::loading::max_lacks` meets its contract: it searches the ordinary roles for one that holds a privilege which MaxRole lacks.
 -- Assumes nothing.
 use borrow.Author.Needs.{needs}
 use mathlib.Core.Bool.{Bool, not, _&&_}
 use mathlib.Core.List.{List}
-use mathlib.Core.Path.{_≡_, sym, ap, _∙_}
+use mathlib.Core.Path.{ap, _∙_}
 use Prim.Native.Nat.{ℕ}
 use Rattle.sets.specs.Sets.{difference, included}
-use Rattle.sets.specs.Counting.{lowest}
-use Rattle.sets.proofs.Laws.{difference-lt}
+use Rattle.sets.specs.Counting.{any}
 use Rattle.graph.specs.Tables.{at}
 use Rattle.graph.specs.Graph.{role-count, ordinary, effective}
 use Rattle.graph.specs.Reading.{read-set, sets-in, drawn-from}
-use Rattle.graph.proofs.Searches.{Search, starts, hit, goes-on, falls, miss, among-ordinary}
-use Rattle.seats.proofs.loading.lacking_role.Statement.{statement}
-use Rattle.seats.proofs.loading.lacking_role.Tie as tie
+use Rattle.graph.proofs.Searches.{Search, read-test, starts-ordinary, any-hit, goes-on, falls, any-miss, any-ordinary}
+use Rattle.seats.proofs.loading.max_lacks.Statement.{statement}
+use Rattle.seats.proofs.loading.max_lacks.Tie as tie
 
 -- Role r holds a privilege that the set lacks.
 abbrev lacks : ℕ → List ℕ → ℕ → Bool
@@ -25,12 +24,8 @@ Inv-loop roles sets top rest₀ rest = Search role-count (lacks (read-set top) (
 abbrev μ-loop : tie.MeasureT-loop
 μ-loop roles sets top rest₀ rest = rest
 
--- What the test says of the entry that was read.
-tested : (top : ℕ) {s t : ℕ} {x y : Bool} → s ≡ t → x ≡ included s top → not x ≡ y → not (included t top) ≡ y
-tested top e f z = ap (λ (u : ℕ). not (included u top)) (sym e) ∙ ap not (sym f) ∙ z
-
 loop-holds : tie.Need-loop-holds Inv-loop μ-loop
-loop-holds c = rw (c .ordinary-roles .ensures) (starts role-count _ _ (difference-lt role-count _ _ (search needs)))
+loop-holds c = starts-ordinary (search needs) (c .ordinary-roles .ensures)
 
 cast-r : tie.Need-cast-r Inv-loop μ-loop
 cast-r c = search needs
@@ -42,8 +37,9 @@ returns c =
     let l = b .before .before in
     let a = l .before .before .before .before .args in
     let g = drawn-from (a .roles) (a .sets .now) in
-    hit (l .loop .inv) (b .before .loop-test .taken) (b .lowest-member .ensures) (tested _ (c .before .before .entry2 .ensures) (c .before .included .ensures) (c .if1 .taken))
-    ∙ among-ordinary g _ ∙ ap (λ (top : ℕ). lowest role-count (λ r. ordinary g r && lacks top (g .sets) r)) (l .before .before .entry .ensures)
+    let top = read-set (l .before .before .entry .result) in
+    any-hit (l .loop .inv) (b .before .loop-test .taken) (b .lowest-member .ensures) (read-test (λ u. not (included u top)) (c .before .before .entry2 .ensures) (ap not (c .before .included .ensures)) (c .if1 .taken))
+    ∙ any-ordinary g _ ∙ ap (λ (top : ℕ). any role-count (λ r. ordinary g r && lacks top (g .sets) r)) (l .before .before .entry .ensures)
 
 loop-less : tie.Need-loop-less Inv-loop μ-loop
 loop-less c =
@@ -53,8 +49,9 @@ loop-less c =
 loop-again : tie.Need-loop-again Inv-loop μ-loop
 loop-again c =
     let b = c .before .before .before .before in
+    let top = read-set (b .before .before .before .before .entry .result) in
     goes-on (b .before .before .loop .inv) (b .before .loop-test .taken) (b .lowest-member .ensures) (c .without-lowest .ensures)
-    (tested _ (c .before .before .before .entry2 .ensures) (c .before .before .included .ensures) (c .before .if1 .left))
+    (read-test (λ u. not (included u top)) (c .before .before .before .entry2 .ensures) (ap not (c .before .before .included .ensures)) (c .before .if1 .left))
 
 returns-2 : tie.Need-returns-2 Inv-loop μ-loop
 unfolding effective
@@ -62,11 +59,11 @@ returns-2 c =
     let l = c .before in
     let a = l .before .before .before .before .args in
     let g = drawn-from (a .roles) (a .sets .now) in
-    miss (l .loop .inv) (c .loop-test .left) ∙ among-ordinary g _
-    ∙ ap (λ (top : ℕ). lowest role-count (λ r. ordinary g r && lacks top (g .sets) r)) (l .before .before .entry .ensures)
+    any-miss (l .loop .inv) (c .loop-test .left) ∙ any-ordinary g _
+    ∙ ap (λ (top : ℕ). any role-count (λ r. ordinary g r && lacks top (g .sets) r)) (l .before .before .entry .ensures)
 
-pub lacking-role-spec : {M : Type 1} → statement M
-lacking-role-spec =
+pub max-lacks-spec : {M : Type 1} → statement M
+max-lacks-spec =
     tie.close
     (tie.spec
     Inv-loop
