@@ -8,7 +8,7 @@ use crate::Privilege;
 use crate::PrivilegeSet;
 
 // The set without members.
-pub(crate) fn empty() -> PrivilegeSet
+pub fn empty() -> PrivilegeSet
     ensures { λ r. ⌜ read-set r ≡ spec.empty ⌝ }
 {
     PrivilegeSet { word: 0 }
@@ -31,7 +31,7 @@ pub fn member(p: Privilege, s: PrivilegeSet) -> bool
 }
 
 // The members of s and those of t.
-pub(crate) fn union(s: PrivilegeSet, t: PrivilegeSet) -> PrivilegeSet
+pub fn union(s: PrivilegeSet, t: PrivilegeSet) -> PrivilegeSet
     ensures { λ r. ⌜ read-set r ≡ spec.union (read-set s) (read-set t) ⌝ }
 {
     PrivilegeSet {
@@ -77,21 +77,28 @@ pub(crate) fn strictly_included(s: PrivilegeSet, t: PrivilegeSet) -> bool
 }
 
 // Whether s has no members.
-pub(crate) fn is_empty(s: PrivilegeSet) -> bool
+pub fn is_empty(s: PrivilegeSet) -> bool
     ensures { λ r. ⌜ r ≡ eqb (read-set s) spec.empty ⌝ }
 {
     sets::is_empty(s.word)
 }
 
+// How many members s has.
+pub fn size(s: PrivilegeSet) -> u32
+    ensures { λ r. ⌜ r ≡ spec.size privilege-count (read-set s) ⌝ }
+{
+    sets::size(s.word)
+}
+
 // The lowest member of s; of the empty set the number of privileges.
-pub(crate) fn lowest_member(s: PrivilegeSet) -> u32
+pub fn lowest_member(s: PrivilegeSet) -> u32
     ensures { λ r. ⌜ r ≡ spec.lowest-member privilege-count (read-set s) ⌝ }
 {
     sets::lowest_member(s.word)
 }
 
 // The set without its lowest member; of the empty set the empty set.
-pub(crate) fn without_lowest(s: PrivilegeSet) -> PrivilegeSet
+pub fn without_lowest(s: PrivilegeSet) -> PrivilegeSet
     ensures { λ r. ⌜ read-set r ≡ spec.without-lowest privilege-count (read-set s) ⌝ }
 {
     PrivilegeSet {
@@ -109,7 +116,7 @@ pub(crate) fn when(c: bool, s: PrivilegeSet) -> PrivilegeSet
 }
 
 // The members of s, and p; for a number that is no privilege's those of s alone.
-pub(crate) fn insert(s: PrivilegeSet, p: Privilege) -> PrivilegeSet
+pub fn insert(s: PrivilegeSet, p: Privilege) -> PrivilegeSet
     ensures { λ r. ⌜ read-set r ≡ spec.union (read-set s) (spec.when (ltb (p .0) privilege-count) (spec.single (p .0))) ⌝ }
 {
     PrivilegeSet {

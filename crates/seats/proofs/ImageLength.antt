@@ -13,12 +13,12 @@ use Rattle.sets.specs.Sets.{member}
 use Rattle.sets.proofs.Tests.{both, passes, fails, decide}
 use Rattle.sets.proofs.Counting.{count-le, count-bound}
 use Rattle.graph.specs.Tables.{at}
-use Rattle.graph.specs.Graph.{Graph, is-end, ordinary, effective, privilege-count}
+use Rattle.graph.specs.Graph.{Graph, role-count, is-end, ordinary, effective, privilege-count}
 use Rattle.graph.specs.Conflicts.{conflict}
 use Rattle.graph.proofs.Order.{ordinary-parts}
 use Rattle.seats.specs.Bytes.{bytes-of}
-use Rattle.seats.specs.Seats.{State}
-use Rattle.seats.specs.Images.{Entry, listed-from, role-entries, conflict-entries, seat-entries, Contents, contents-of, Counts, counts-of, trailer-length, distance, trailer, parts, image}
+use Rattle.seats.specs.Seats.{State, seat-count}
+use Rattle.seats.specs.Images.{Entry, listed-from, role-entries, conflict-entries, seat-entries, Contents, contents-of, set-bytes, role-set-bytes, privilege-bytes, Counts, counts-of, trailer-length, distance, trailer, parts, image}
 use Rattle.seats.proofs.Numbers.{length-bytes-of}
 use Rattle.seats.proofs.EntryBytes.{Each, length-entry-bytes}
 use Rattle.seats.proofs.AscendingEntries.{valued, each-listed}
@@ -31,10 +31,10 @@ length-trailer n = refl
 pub length-parts : (c : Contents) → length (parts c) ≡ distance (counts-of c)
 unfolding parts distance
 length-parts c =
-    let t = length-bytes-of 8 (c .top) in
-    let r = length-entry-bytes 8 (c .roles) in
-    let p = length-entry-bytes 1 (c .conflicts) in
-    let s = length-entry-bytes 8 (c .seats) in
+    let t = length-bytes-of set-bytes (c .top) in
+    let r = length-entry-bytes set-bytes (c .roles) in
+    let p = length-entry-bytes privilege-bytes (c .conflicts) in
+    let s = length-entry-bytes role-set-bytes (c .seats) in
     let e = length-trailer (counts-of c) in
     simp length-append (omega arith)
 
@@ -63,26 +63,26 @@ length-listed has entry n = omega (arith, counted-from has entry 0 n ∙ ap (λ 
 pub roles-bound : (g : Graph) → length (role-entries g) ≤ 62
 unfolding role-entries ordinary is-end count
 roles-bound g =
-    let most : count 64 (λ r. not (is-end r)) ≡ 62 = refl in
-    let le = count-le 64 (ordinary g) (λ r. not (is-end r)) (λ r l t. both (not (is-end r)) (member r (g .roles)) t .0) in
-    omega (arith, length-listed (ordinary g) (valued (effective g)) 64)
+    let most : count role-count (λ r. not (is-end r)) ≡ 62 = refl in
+    let le = count-le role-count (ordinary g) (λ r. not (is-end r)) (λ r l t. both (not (is-end r)) (member r (g .roles)) t .0) in
+    omega (arith, length-listed (ordinary g) (valued (effective g)) role-count)
 
-pub seats-bound : (s : State) → length (seat-entries s) ≤ 64
+pub seats-bound : (s : State) → length (seat-entries s) ≤ seat-count
 unfolding seat-entries
 seats-bound s =
-    omega (arith, length-listed (filled (s .seats)) (valued (at (s .seats))) 64, count-bound 64 (filled (s .seats)))
+    omega (arith, length-listed (filled (s .seats)) (valued (at (s .seats))) seat-count, count-bound seat-count (filled (s .seats)))
 
-ordered-pairs : count 4096 (λ k. ltb (k / 64) (k % 64)) ≡ 2016
+ordered-pairs : count (privilege-count * privilege-count) (λ k. ltb (k / privilege-count) (k % privilege-count)) ≡ 2016
 unfolding count
 ordered-pairs = refl
 
 pub conflicts-bound : (g : Graph) → length (conflict-entries g) ≤ 2016
 unfolding conflict-entries conflict
 conflicts-bound g =
-    let has : ℕ → Bool = λ k. conflict (g .conflicts) (k / 64) (k % 64) in
+    let has : ℕ → Bool = λ k. conflict (g .conflicts) (k / privilege-count) (k % privilege-count) in
     let most = ordered-pairs in
-    let le = count-le 4096 has (λ k. ltb (k / 64) (k % 64)) (λ k l t. both (ltb (k / 64) (k % 64)) (member (k % 64) (at (g .conflicts) (k / 64))) t .0) in
-    omega (arith, length-listed has (λ k. record { key = k / 64; value = k % 64 }) 4096)
+    let le = count-le (privilege-count * privilege-count) has (λ k. ltb (k / privilege-count) (k % privilege-count)) (λ k l t. both (ltb (k / privilege-count) (k % privilege-count)) (member (k % privilege-count) (at (g .conflicts) (k / privilege-count))) t .0) in
+    omega (arith, length-listed has (λ k. record { key = k / privilege-count; value = k % privilege-count }) (privilege-count * privilege-count))
 
 pub image-bound : (s : State) → length (image s) ≤ 5182
 unfolding distance
@@ -90,10 +90,10 @@ image-bound s = omega (arith, image-length s, roles-bound (s .graph), seats-boun
 
 -- ---- keys
 -- The number of a role entry is that of an ordinary role.
-pub role-keys : (g : Graph) → Each (λ e. (2 ≤ e .key) × (e .key < 64)) (role-entries g)
+pub role-keys : (g : Graph) → Each (λ e. (2 ≤ e .key) × (e .key < role-count)) (role-entries g)
 unfolding role-entries
 role-keys g =
-    each-listed (ordinary g) (valued (effective g)) (λ e. (2 ≤ e .key) × (e .key < 64)) 0 64 (λ k l t. (ordinary-parts g k t .0, omega arith))
+    each-listed (ordinary g) (valued (effective g)) (λ e. (2 ≤ e .key) × (e .key < role-count)) 0 role-count (λ k l t. (ordinary-parts g k t .0, omega arith))
 
 pub conflict-pairs : (g : Graph) → Each (λ e. (e .key < e .value) × (e .value < privilege-count)) (conflict-entries g)
 unfolding conflict-entries conflict

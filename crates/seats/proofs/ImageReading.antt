@@ -8,7 +8,7 @@ use lib.ListN.{length, length-append}
 use lib.Seq.{drop-at}
 use borrow.Author.Tests.{le-ltb, le-leb, eq-eqb}
 use Rattle.seats.specs.Bytes.{bytes-of, number-at}
-use Rattle.seats.specs.Images.{Entry, Contents, set-bytes, privilege-bytes, entry-bytes, trailer-length, least-image, Counts, counts-of, distance, trailer, parts, entries-at, far-at, counts-at, contents, load-contents, load-trailer, load}
+use Rattle.seats.specs.Images.{Entry, Contents, set-bytes, role-set-bytes, privilege-bytes, entry-bytes, trailer-length, least-image, Counts, counts-of, distance, trailer, parts, entries-at, far-at, counts-at, contents, load-contents, load-trailer, load}
 use Rattle.seats.specs.ImageWork.{Small}
 use Rattle.seats.proofs.Numbers.{length-bytes-of, number-drop, number-behind}
 use Rattle.seats.proofs.EntryBytes.{Each, length-entry-bytes, entries-behind}
@@ -55,7 +55,7 @@ pub record Fits (c : Contents) : Type 0 where
   pub top : c .top < 256 ^ set-bytes
   pub roles : Each (λ e. e .value < 256 ^ set-bytes) (c .roles)
   pub conflicts : Each (λ e. e .value < 256 ^ privilege-bytes) (c .conflicts)
-  pub seats : Each (λ e. e .value < 256 ^ set-bytes) (c .seats)
+  pub seats : Each (λ e. e .value < 256 ^ role-set-bytes) (c .seats)
 
 module _ (before : List ℕ) (c : Contents) (h : Fits c) where
   -- The image before its trailer.

@@ -16,7 +16,7 @@ use Rattle.sets.proofs.Counting.{some-any}
 use Rattle.sets.proofs.Laws.{included-member}
 use Rattle.sets.proofs.Members.{in-empty}
 use Rattle.graph.specs.Tables.{at}
-use Rattle.graph.specs.Graph.{role-count, max-role, ordinary, present, effective}
+use Rattle.graph.specs.Graph.{role-count, privilege-count, max-role, ordinary, present, effective}
 use Rattle.graph.specs.Refusing.{closed-checks}
 use Rattle.graph.specs.Invariants.{Table, Formed, Distinct, PairFree}
 use Rattle.graph.proofs.Tables.{at-replicate}
@@ -24,7 +24,7 @@ use Rattle.graph.proofs.Order.{ordinary-join, end-present, member-present, ordi
 use Rattle.seats.specs.Bytes.{Bytes}
 use Rattle.seats.specs.Seats.{State, seat-count, assigned, pair-seat}
 use Rattle.seats.specs.Invariants.{Invariant}
-use Rattle.seats.specs.Images.{Entry, distance, Contents, counts-at, contents, keys, stored, end-sets, restored, content-checks, loaded, load}
+use Rattle.seats.specs.Images.{Entry, set-bytes, role-set-bytes, distance, Contents, counts-at, contents, keys, stored, end-sets, restored, content-checks, loaded, load}
 use Rattle.graph.proofs.Refusals.{Passes, closed-from}
 use Rattle.seats.proofs.Numbers.{number-lt}
 use Rattle.seats.proofs.EntryBytes.{Each, each-map, entries-lt}
@@ -36,16 +36,16 @@ use Rattle.seats.proofs.LoadFacts.{found, accepted, Ordered, ordered}
 zeros-lt : (n w i : ℕ) → at (replicate n 0) i < 2 ^ w
 zeros-lt n w i = rw (at-replicate n i) (pow-pos w)
 
--- Sets of 64 stored into a table of 64 such sets leave one.
-stored-table : (l : List Entry) (t : List ℕ) → length t ≡ 64 → Each (λ e. e .value < 2 ^ 64) l → ((i : ℕ) → at t i < 2 ^ 64) → Table 64 64 (stored l t)
-stored-table l t e h f = record {
+-- Sets of a width stored into a table of such sets leave one.
+stored-table : (n w : ℕ) (l : List Entry) (t : List ℕ) → length t ≡ n → Each (λ e. e .value < 2 ^ w) l → ((i : ℕ) → at t i < 2 ^ w) → Table n w (stored l t)
+stored-table n w l t e h f = record {
   whole = length-stored l t ∙ e;
-  entry-lt = λ i. stored-holds (λ x. x < 2 ^ 64) i l t (each-map l (λ e k q. k) h) (f i);
+  entry-lt = λ i. stored-holds (λ x. x < 2 ^ w) i l t (each-map l (λ e k q. k) h) (f i);
 }
 
-module _ (c : Contents) (o : Ordered c) (ht : c .top < 2 ^ 64) (hr : Each (λ e. e .value < 2 ^ 64) (c .roles)) (hs : Each (λ e. e .value < 2 ^ 64) (c .seats)) where
+module _ (c : Contents) (o : Ordered c) (ht : c .top < 2 ^ privilege-count) (hr : Each (λ e. e .value < 2 ^ privilege-count) (c .roles)) (hs : Each (λ e. e .value < 2 ^ role-count) (c .seats)) where
   roles-lt : keys (c .roles) < 2 ^ role-count
-  roles-lt = keys-lt 64 (c .roles) (each-map (c .roles) (λ e x. x .1) (o .roles))
+  roles-lt = keys-lt role-count (c .roles) (each-map (c .roles) (λ e x. x .1) (o .roles))
 
   role-ordinary : (r : ℕ) → T (member r (keys (c .roles))) → 2 ≤ r
   role-ordinary r m =
@@ -72,7 +72,7 @@ module _ (c : Contents) (o : Ordered c) (ht : c .top < 2 ^ 64) (hr : Each (λ e.
               | yes q ↦ (end-present (restored c .graph) r (omega arith), omega arith)
               | no d ↦
                   absurd (in-empty p (subst (λ (x : ℕ). T (member p x))
-                  (stored-absent r (c .roles) (end-sets (c .top)) n ∙ getD-set-other (replicate 64 0) 1 r (c .top) 0 d ∙ at-replicate 64 r) m))
+                  (stored-absent r (c .roles) (end-sets (c .top)) n ∙ getD-set-other (replicate role-count empty) max-role r (c .top) 0 d ∙ at-replicate role-count r) m))
             ]
       ]
 
@@ -90,11 +90,11 @@ module _ (c : Contents) (o : Ordered c) (ht : c .top < 2 ^ 64) (hr : Each (λ e.
     restored-formed = record {
       roles-lt = roles-lt;
       roles-ordinary = role-ordinary;
-      sets = stored-table (c .roles) (end-sets (c .top)) refl hr (λ i. set-holds (λ x. x < 2 ^ 64) (replicate 64 0) 1 (c .top) i (λ q. ht) (zeros-lt 64 64 i));
+      sets = stored-table role-count privilege-count (c .roles) (end-sets (c .top)) refl hr (λ i. set-holds (λ x. x < 2 ^ privilege-count) (replicate role-count empty) max-role (c .top) i (λ q. ht) (zeros-lt role-count privilege-count i));
       held = held;
       top-whole = λ r t.
           so (included (effective (restored c .graph) r) (effective (restored c .graph) max-role))
-          (λ n. p .1 .1 .1 .1 .0 (some-any 64 _ r (ordinary-lt (restored c .graph) r roles-lt t) (join (ordinary (restored c .graph) r) _ t n)));
+          (λ n. p .1 .1 .1 .1 .0 (some-any role-count _ r (ordinary-lt (restored c .graph) r roles-lt t) (join (ordinary (restored c .graph) r) _ t n)));
     }
 
     restored-closed : Distinct (restored c .graph) × PairFree (restored c .graph)
@@ -105,9 +105,9 @@ module _ (c : Contents) (o : Ordered c) (ht : c .top < 2 ^ 64) (hr : Each (λ e.
     unfolding Passes content-checks restored
     restored-keeps = record {
       graph = record { formed = restored-formed; distinct = restored-closed .0; paired = pairs-paired (c .conflicts) (o .conflicts); pair-free = restored-closed .1 };
-      seats = stored-table (c .seats) (replicate seat-count empty) refl hs (zeros-lt seat-count 64);
+      seats = stored-table seat-count role-count (c .seats) (replicate seat-count empty) refl hs (zeros-lt seat-count role-count);
       seated = seats-seated;
-      seat-free = λ i l t. p .1 .1 .1 .0 (some-any 64 (pair-seat (restored c)) i l t);
+      seat-free = λ i l t. p .1 .1 .1 .0 (some-any seat-count (pair-seat (restored c)) i l t);
     }
 
 pub loaded-keeps : (l : List ℕ) → Bytes l → (s : State) → load l ≡ loaded s → Invariant s
@@ -119,4 +119,4 @@ loaded-keeps l h s e =
     let c = contents l i n in
     let a = accepted c s (f .loads) in
     subst Invariant (a .same)
-    (restored-keeps c (ordered c (a .entries)) (number-lt 8 i l h) (entries-lt 8 _ (n .roles) l h) (entries-lt 8 _ (n .seats) l h) (a .state))
+    (restored-keeps c (ordered c (a .entries)) (number-lt set-bytes i l h) (entries-lt set-bytes _ (n .roles) l h) (entries-lt role-set-bytes _ (n .seats) l h) (a .state))

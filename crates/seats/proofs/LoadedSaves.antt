@@ -11,7 +11,7 @@ use lib.Dec.{T, T-not, eqb, eqb-refl}
 use Rattle.sets.specs.Sets.{empty, member}
 use Rattle.sets.proofs.Tests.{so, equal-test}
 use Rattle.graph.specs.Tables.{at}
-use Rattle.graph.specs.Graph.{max-role, ordinary, effective}
+use Rattle.graph.specs.Graph.{role-count, max-role, ordinary, effective}
 use Rattle.graph.proofs.Tables.{at-replicate}
 use Rattle.graph.proofs.Order.{ordinary-parts, ordinary-join}
 use Rattle.seats.specs.Bytes.{bytes-of, number-at, Bytes}
@@ -72,7 +72,7 @@ module _ (c : Contents) (o : Ordered c) where
   roles-back : role-entries (restored c .graph) ≡ c .roles
   unfolding role-entries effective restored
   roles-back =
-      stored-listed 64 (ordinary (restored c .graph)) (c .roles) (end-sets (c .top)) refl (o .roles-rise)
+      stored-listed role-count (ordinary (restored c .graph)) (c .roles) (end-sets (c .top)) refl (o .roles-rise)
       (each-zip (c .roles) (λ e x m. (x .1, ordinary-join (restored c .graph) (e .key) (x .0) m)) (o .roles) role-known)
       (λ k t. subst T (member-keys k (c .roles)) (ordinary-parts (restored c .graph) k t .1))
 
@@ -88,7 +88,7 @@ module _ (c : Contents) (o : Ordered c) where
   unfolding seat-entries restored
   seats-back =
       let zeros = replicate seat-count empty in
-      stored-listed 64 (filled (stored (c .seats) zeros)) (c .seats) zeros refl (o .seats-rise)
+      stored-listed seat-count (filled (stored (c .seats) zeros)) (c .seats) zeros refl (o .seats-rise)
       (each-zip (c .seats) (λ e x q. (x .0, subst (λ (y : ℕ). T (not (eqb y empty))) (sym q) (x .1))) (o .seats)
       (stored-each 0 (c .seats) zeros (o .seats-rise) (each-map (c .seats) (λ e x. x .0) (o .seats))))
       (λ k t. so (there Entry.key k (c .seats)) (λ n. T-not (eqb (at (stored (c .seats) zeros) k) empty) t (equal-test (absent k (T-not (there Entry.key k (c .seats)) n)))))

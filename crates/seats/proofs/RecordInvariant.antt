@@ -8,6 +8,7 @@ use Prim.Native.Nat.{ℕ, zero, suc, _<_, _^_}
 use lib.ListN.{getD, length}
 use lib.Dec.{leb, eqb}
 use Rattle.lists.specs.Runs.{Each}
+use Rattle.graph.specs.Graph.{role-count, privilege-count}
 use Rattle.graph.specs.Editing.{add-by-place, add-by-privileges, remove-role, grant, withdraw, add-edge, remove-edge}
 use Rattle.seats.specs.Bytes.{number-at, Bytes}
 use Rattle.seats.specs.Seats.{State}
@@ -39,7 +40,7 @@ each-at [] k e = tt
 each-at (d ∷ l) zero (h, e) = h
 each-at (d ∷ l) (suc k) (h, e) = each-at l k e
 
-kinds-fit : (f : Fields) → f .x < 2 ^ 64 → f .y < 2 ^ 64 → f .z < 2 ^ 64 → Each FitsDecoded (malformed ∷ kinds f)
+kinds-fit : (f : Fields) → f .x < 2 ^ privilege-count → f .y < 2 ^ role-count → f .z < 2 ^ role-count → Each FitsDecoded (malformed ∷ kinds f)
 unfolding kinds Each FitsDecoded FitsCall Fits
 kinds-fit f hx hy hz =
     let a = f .a in

@@ -84,6 +84,7 @@ named-spec =
     (λ c κs. tt)
     (λ c κs. tt)
     (λ c κs. tt)
+    (λ c κs. tt)
     returns
     returns-2
     returns-3
