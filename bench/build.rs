@@ -4,12 +4,12 @@ use std::path::Path;
 
 fn main() {
     let folder = Path::new(env!("CARGO_MANIFEST_DIR")).join("../target/staticlib");
-    let archive = folder.join("libboundary.a");
+    let archive = folder.join("libkeeper.a");
     println!("cargo:rustc-check-cfg=cfg(archive)");
     println!("cargo:rerun-if-changed={}", archive.display());
     if archive.exists() {
         println!("cargo:rustc-link-search=native={}", folder.display());
-        println!("cargo:rustc-link-lib=static=boundary");
+        println!("cargo:rustc-link-lib=static=keeper");
         println!("cargo:rustc-cfg=archive");
     }
 }

@@ -1,6 +1,6 @@
-//! The proved keeper as a value: a block of words, and the boundary's functions on it.
+//! The proved keeper as a value: a block of words, and the exported functions on it.
 
-use crate::boundary::{
+use crate::exports::{
     keeper_ask, keeper_call, keeper_count_yes, keeper_fresh, keeper_load, keeper_save, WORDS,
 };
 use crate::side::Side;

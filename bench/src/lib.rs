@@ -1,7 +1,7 @@
 //! The keeper beside plain Rust: see `bench/run`.
 
 #[cfg(archive)]
-mod boundary;
+mod exports;
 #[cfg(archive)]
 pub mod keeper;
 pub mod plain;

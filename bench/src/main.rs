@@ -344,7 +344,7 @@ fn main() -> io::Result<()> {
     };
     if cfg!(not(archive)) {
         println!(
-            "target/staticlib/libboundary.a is not there: plain Rust stands in for the keeper"
+            "target/staticlib/libkeeper.a is not there: plain Rust stands in for the keeper"
         );
     }
     println!("medians with their quartiles; * marks a ratio above {MOST}, of layers to a chain above {MOST_OF_LAYERS}");

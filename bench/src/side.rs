@@ -1,4 +1,4 @@
-//! What both sides can do, with the answers in the boundary's numbers, so that one function times either.
+//! What both sides can do, with the answers in the numbers of the exported functions, so that one function times either.
 
 use crate::plain::{Answer, Plain};
 

@@ -1,6 +1,6 @@
 /* The role keeper from C: from the first role to a yes.
  *
- *     cc -Iinclude examples/c/ask.c target/staticlib/libboundary.a -o ask
+ *     cc -Iinclude examples/c/ask.c target/staticlib/libkeeper.a -o ask
  *
  * include/keeper.h declares what is used here:
  *

@@ -1,8 +1,8 @@
-//! Links the archive that `rt staticlib boundary` writes.
+//! Links the archive that `rt staticlib keeper` writes.
 
 fn main() {
     let folder = concat!(env!("CARGO_MANIFEST_DIR"), "/../../target/staticlib");
-    println!("cargo:rerun-if-changed={folder}/libboundary.a");
+    println!("cargo:rerun-if-changed={folder}/libkeeper.a");
     println!("cargo:rustc-link-search=native={folder}");
-    println!("cargo:rustc-link-lib=static=boundary");
+    println!("cargo:rustc-link-lib=static=keeper");
 }

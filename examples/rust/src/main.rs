@@ -1,7 +1,7 @@
 //! The role keeper from Rust: from the first role to a yes.
 
 /// The archive's functions. A slice is a pointer and a length.
-mod boundary {
+mod exports {
     extern "C" {
         pub fn keeper_fresh(block: *mut u64, words: usize) -> u32;
         pub fn keeper_call(block: *mut u64, words: usize, bytes: *const u8, length: usize) -> u32;
@@ -36,7 +36,7 @@ struct Keeper([u64; WORDS]);
 // Each call lends the block, and bytes that outlive the call, with their lengths: all that the functions ask for.
 impl Keeper {
     fn fresh(&mut self) -> Result<bool, Refusal> {
-        answer(unsafe { boundary::keeper_fresh(self.0.as_mut_ptr(), WORDS) })
+        answer(unsafe { exports::keeper_fresh(self.0.as_mut_ptr(), WORDS) })
     }
 
     /// Gives a record of two numbers and one set; the other fields stay zero.
@@ -45,12 +45,12 @@ impl Keeper {
         record[..3].copy_from_slice(&[kind, a, b]);
         record[8..16].copy_from_slice(&set.to_le_bytes());
         answer(unsafe {
-            boundary::keeper_call(self.0.as_mut_ptr(), WORDS, record.as_ptr(), record.len())
+            exports::keeper_call(self.0.as_mut_ptr(), WORDS, record.as_ptr(), record.len())
         })
     }
 
     fn ask(&self, seat: u8, privilege: u8) -> Result<bool, Refusal> {
-        answer(unsafe { boundary::keeper_ask(self.0.as_ptr(), WORDS, seat, privilege) })
+        answer(unsafe { exports::keeper_ask(self.0.as_ptr(), WORDS, seat, privilege) })
     }
 }
 

@@ -102,7 +102,7 @@ fn lowered(text: &str) -> Vec<(String, String)> {
 }
 
 fn source() -> Functions {
-    let folder = Path::new(env!("CARGO_MANIFEST_DIR")).join("../../crates/boundary/src");
+    let folder = Path::new(env!("CARGO_MANIFEST_DIR")).join("../../crates/keeper/src");
     let files = fs::read_dir(folder).expect("the crate's source");
     let text: String = files
         .map(|file| fs::read_to_string(file.expect("a file").path()).expect("its text"))

@@ -1,0 +1,17 @@
+//! The C functions of `crates/keeper`, as `rt staticlib keeper` puts them into `target/staticlib/libkeeper.a`.
+//!
+//! A slice is a pointer and a length in elements. A block is 193 words: the roles, then 64 words each for the sets, the
+//! conflicts and the seats. An answer is 0 for accepted and for an ask's no, 1 for an ask's yes, and 256 times the
+//! number plus the place for a refusal; saving answers with the length, or 65536 plus that.
+
+pub const WORDS: usize = 193;
+
+extern "C" {
+    pub fn keeper_fresh(block: *mut u64, words: usize) -> u32;
+    pub fn keeper_call(block: *mut u64, words: usize, bytes: *const u8, length: usize) -> u32;
+    pub fn keeper_ask(block: *const u64, words: usize, seat: u8, privilege: u8) -> u32;
+    pub fn keeper_count_yes(block: *const u64, words: usize, asks: *const u8, length: usize)
+        -> u64;
+    pub fn keeper_load(block: *mut u64, words: usize, bytes: *const u8, length: usize) -> u32;
+    pub fn keeper_save(block: *const u64, words: usize, buffer: *mut u8, length: usize) -> u32;
+}

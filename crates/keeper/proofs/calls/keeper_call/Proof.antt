@@ -1,0 +1,92 @@
+-- `keeper::calls::keeper_call` meets its contract, by what the record decodes to.
+-- Assumes nothing.
+use mathlib.Core.Path.{_≡_, sym, ap, _∙_}
+use native.Mathlib.Omega.{arith}
+use borrow.Author.Needs.{needs}
+use borrow.Author.Tests.{lt-leb, le-leb}
+use Rattle.seats.specs.Calls.{refused}
+use Rattle.seats.specs.Records.{Decoded, malformed, well-formed, decode, perform-decoded, step}
+use Rattle.seats.specs.Reading.{read-call, read-decoded}
+use Rattle.seats.specs.declared.Call.{Call}
+use Rattle.keeper.specs.Block.{state-in, of-state}
+use Rattle.keeper.specs.Exports.{given, call-block}
+use Rattle.keeper.proofs.BlockWords.{holds-own}
+use Rattle.keeper.proofs.CodedAnswer.{gives}
+use Rattle.keeper.proofs.calls.keeper_call.Statement.{statement}
+use Rattle.keeper.proofs.calls.keeper_call.Tie as tie
+
+returns : tie.Need-returns
+unfolding call-block of-state
+returns c = simp (lt-leb _ _ (c .if1 .taken))
+
+enum-known-decoded : tie.Need-enum-known-decoded
+enum-known-decoded c = search needs
+
+enum-told : tie.Need-enum-told
+enum-told c = search needs
+
+returns-2 : tie.Need-returns-2
+unfolding call-block of-state step perform-decoded read-decoded
+returns-2 c =
+    let s = c .before .before .before .before .before .before .before in
+    let W = s .args .block .now in
+    let d : malformed ≡ decode (s .args .bytes .now) = sym (ap read-decoded (c .before .enum-told .given .1)) ∙ c .before .before .before .decode .ensures in
+    rw (le-leb _ _ (c .before .before .before .before .if1 .left))
+    (gives W (refused 1 0) (state-in W) (c .refusal-code .ensures .0) (sym (holds-own W (omega (arith, c .before .before .before .before .if1 .left)))) (ap (perform-decoded (state-in W)) d))
+
+enum-known-call : tie.Need-enum-known-call
+enum-known-call c = search needs
+
+take-change-requires : tie.Need-take-change-requires
+take-change-requires c κs = search needs
+
+enum-known-call-2 : tie.Need-enum-known-call-2
+enum-known-call-2 c = search needs
+
+take-request-requires : tie.Need-take-request-requires
+take-request-requires c κs = search needs
+
+same-length : tie.Need-same-length
+same-length c = search needs
+
+returns-3 : tie.Need-returns-3
+unfolding call-block of-state step perform-decoded read-decoded read-call
+returns-3 c =
+    let k = c .before .before .before .before .before in
+    let d = k .before .before .before in
+    let m = d .before .before in
+    let W = m .before .before .before .before .args .block .now in
+    let e = sym (m .decode .ensures) ∙ ap read-decoded (d .decoded .given .1) ∙ ap (λ (q : Call). well-formed (read-call q)) (k .call .given .1) in
+    rw (le-leb _ _ (m .before .if1 .left)) (c .before .before .take-change .ensures ∙ ap (λ (q : Decoded). given W (perform-decoded (state-in W) q)) (sym e))
+
+same-length-2 : tie.Need-same-length-2
+same-length-2 c = search needs
+
+returns-4 : tie.Need-returns-4
+unfolding call-block of-state step perform-decoded read-decoded read-call
+returns-4 c =
+    let k = c .before .before .before .before .before in
+    let d = k .before .before .before in
+    let m = d .before .before in
+    let W = m .before .before .before .before .args .block .now in
+    let e = sym (m .decode .ensures) ∙ ap read-decoded (d .decoded .given .1) ∙ ap (λ (q : Call). well-formed (read-call q)) (k .call2 .given .1) in
+    rw (le-leb _ _ (m .before .if1 .left)) (c .before .before .take-request .ensures ∙ ap (λ (q : Decoded). given W (perform-decoded (state-in W) q)) (sym e))
+
+pub keeper-call-spec : {M : Type 1} → statement M
+keeper-call-spec =
+    tie.close
+    (tie.spec
+    returns
+    (λ c κs. tt)
+    enum-known-decoded
+    enum-told
+    (λ c κs. tt)
+    returns-2
+    enum-known-call
+    take-change-requires
+    enum-known-call-2
+    take-request-requires
+    same-length
+    returns-3
+    same-length-2
+    returns-4)

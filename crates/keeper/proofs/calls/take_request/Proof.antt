@@ -1,0 +1,90 @@
+-- `keeper::calls::take_request` meets its contract: what the decision stores is stored in the block.
+-- Assumes nothing.
+use mathlib.Core.Path.{sym, ap, _∙_}
+use Prim.Native.Nat.{_<_}
+use native.Mathlib.Omega.{arith}
+use borrow.Author.Needs.{needs}
+use Rattle.seats.specs.declared.Stored.{Stored}
+use Rattle.seats.specs.Reading.{read-answer, stored}
+use Rattle.keeper.specs.Block.{state-in}
+use Rattle.keeper.proofs.BlockWords.{holds-own, conflicts-stored, roles-stored}
+use Rattle.keeper.proofs.CodedAnswer.{gives}
+use Rattle.keeper.proofs.calls.take_request.Statement.{statement}
+use Rattle.keeper.proofs.calls.take_request.Tie as tie
+
+decided-requires : tie.Need-decided-requires
+decided-requires c κs = search needs
+
+enum-told : tie.Need-enum-told
+enum-told c = search needs
+
+enum-known-stored : tie.Need-enum-known-stored
+enum-known-stored c = search needs
+
+store-at-requires : tie.Need-store-at-requires
+store-at-requires c κs = search needs
+
+enum-known-stored-2 : tie.Need-enum-known-stored-2
+enum-known-stored-2 c = search needs
+
+store-at-requires-2 : tie.Need-store-at-requires-2
+store-at-requires-2 c κs = search needs
+
+same-length : tie.Need-same-length
+same-length c = search needs
+
+returns : tie.Need-returns
+unfolding stored
+returns c =
+    let d = c .before .before .before in
+    let p = d .before .before .before in
+    let W = p .args .block .now in
+    let a = read-answer (d .decided .result .answer) in
+    gives W a (state-in W) (c .code .ensures) (sym (holds-own W (let l = p .pre in omega arith)))
+    (ap (λ (x : Stored). (a, stored (state-in W) x)) (sym (c .before .enum-told .given .1)) ∙ d .decided .ensures)
+
+same-length-2 : tie.Need-same-length-2
+same-length-2 c = search needs
+
+returns-2 : tie.Need-returns-2
+unfolding stored
+returns-2 c =
+    let d = c .before .before .before .before .before .before .before .before in
+    let p = d .before .before .before in
+    let W = p .args .block .now in
+    let a = read-answer (d .decided .result .answer) in
+    gives W a _ (c .code2 .ensures) (c .before .before .before .store-at .ensures ∙ conflicts-stored W _ _ (p .pre))
+    (ap (λ (x : Stored). (a, stored (state-in W) x)) (sym (c .before .before .before .before .before .before .stored .given .1)) ∙ d .decided .ensures)
+
+same-length-3 : tie.Need-same-length-3
+same-length-3 c = search needs
+
+returns-3 : tie.Need-returns-3
+unfolding stored
+returns-3 c =
+    let d = c .before .before .before .before .before .before .before .before in
+    let p = d .before .before .before in
+    let W = p .args .block .now in
+    let a = read-answer (d .decided .result .answer) in
+    gives W a _ (c .code3 .ensures) (c .before .before .before .store-at2 .ensures ∙ roles-stored W _ _ (p .pre))
+    (ap (λ (x : Stored). (a, stored (state-in W) x)) (sym (c .before .before .before .before .before .before .stored2 .given .1)) ∙ d .decided .ensures)
+
+pub take-request-spec : {M : Type 1} → statement M
+take-request-spec =
+    tie.close
+    (tie.spec
+    decided-requires
+    enum-told
+    (λ c κs. tt)
+    enum-known-stored
+    store-at-requires
+    (λ c κs. tt)
+    enum-known-stored-2
+    store-at-requires-2
+    (λ c κs. tt)
+    same-length
+    returns
+    same-length-2
+    returns-2
+    same-length-3
+    returns-3)

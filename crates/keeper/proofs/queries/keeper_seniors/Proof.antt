@@ -1,0 +1,42 @@
+-- `keeper::queries::keeper_seniors` meets its contract, by a part of the block.
+-- Assumes nothing.
+use borrow.Author.Needs.{needs}
+use borrow.Author.Tests.{lt-leb, le-leb}
+use Rattle.graph.specs.Graph.{ordinary, present, effective}
+use Rattle.graph.specs.Drawing.{below, edge, seniors}
+use Rattle.keeper.specs.Block.{of-state}
+use Rattle.keeper.specs.Exports.{seniors-block}
+use Rattle.keeper.proofs.queries.keeper_seniors.Statement.{statement}
+use Rattle.keeper.proofs.queries.keeper_seniors.Tie as tie
+
+returns : tie.Need-returns
+unfolding seniors-block of-state
+returns c = simp (lt-leb _ _ (c .if1 .taken))
+
+sub-sets : tie.Need-sub-sets
+sub-sets c = search needs
+
+part-sets-start : tie.Need-part-sets-start
+part-sets-start c = search needs
+
+part-sets-end : tie.Need-part-sets-end
+part-sets-end c = search needs
+
+shared-slice-read-seniors-of : tie.Need-shared-slice-read-seniors-of
+shared-slice-read-seniors-of c = search needs
+
+returns-2 : tie.Need-returns-2
+unfolding seniors-block of-state seniors edge below ordinary present effective
+returns-2 c = rw (le-leb _ _ (c .before .before .before .if1 .left)) (c .seniors-of .ensures)
+
+pub keeper-seniors-spec : {M : Type 1} → statement M
+keeper-seniors-spec =
+    tie.close
+    (tie.spec
+    returns
+    sub-sets
+    part-sets-start
+    part-sets-end
+    shared-slice-read-seniors-of
+    (λ c κs. tt)
+    returns-2)

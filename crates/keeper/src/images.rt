@@ -1,0 +1,53 @@
+// The exported functions that save an image into a lent buffer, and load one.
+ghost use mathlib.Core.Path.{_≡_};
+ghost use Rattle.keeper.specs.Exports.{save-block, load-block};
+use crate::block::CONFLICTS;
+use crate::block::SEATS;
+use crate::block::SETS;
+use crate::block::WORDS;
+use crate::block::put_state;
+use crate::codes::NO_STATE;
+use crate::codes::code;
+use crate::codes::refusal_code;
+use seats::Answer;
+use seats::Filled;
+use seats::loading;
+use seats::saving;
+use seats::tape;
+
+// Saves the block's state into the buffer: the length written, or 65536 and the refusal's code.
+#[no_mangle]
+pub extern "C" fn keeper_save(block: &[u64], buffer: &mut [u8]) -> u32
+    ensures { λ r. ⌜ (r, now (buffer .exit)) ≡ save-block (now (block .entry)) (now (buffer .entry)) ⌝ }
+{
+    if block.len() < WORDS {
+        return NO_STATE;
+    }
+    let sets = &block[SETS..CONFLICTS];
+    let conflicts = &block[CONFLICTS..SEATS];
+    let seats = &block[SEATS..WORDS];
+    let filled = saving::save(block[0], sets, conflicts, seats, buffer);
+    match filled {
+        Filled::Written(n) => n as u32,
+        Filled::TooShort(refusal) => 65536 + refusal_code(refusal.number, refusal.place),
+    }
+}
+
+// Loads the image that ends the bytes into the block.
+#[no_mangle]
+pub extern "C" fn keeper_load(block: &mut [u64], bytes: &[u8]) -> u32
+    ensures { λ r. ⌜ (r, now (block .exit)) ≡ load-block (now (block .entry)) (now (bytes .entry)) ⌝ }
+{
+    if block.len() < WORDS {
+        return NO_STATE;
+    }
+    let loaded = loading::load(tape::fresh(), bytes);
+    let answer = loaded.answer;
+    match answer {
+        Answer::Accepted => {
+            put_state(block, loaded.state);
+            code(answer)
+        }
+        _ => code(answer),
+    }
+}
