@@ -2,14 +2,16 @@
 -- Assumes nothing.
 use mathlib.Core.Path.{_≡_, refl, sym, ap, ap₂, _∙_}
 use mathlib.Core.List.{List, [], _∷_, _++_, map}
-use Prim.Native.Nat.{ℕ, _-_, _≤_}
+use Prim.Native.Nat.{ℕ, _+_, _≤_}
 use native.Mathlib.Omega.{arith}
 use borrow.Author.Tests.{le-leb}
 use lib.ListN.{length, drop, replicate, length-append, length-drop, length-set}
 use lib.Seq.{drop-drop, take-at, drop-at}
 use Rattle.lists.specs.Runs.{run}
 use Rattle.lists.proofs.Settling.{settle-keeps}
+use Rattle.sets.specs.Sets.{empty}
 use Rattle.graph.specs.Tables.{put, take-out}
+use Rattle.graph.specs.Graph.{role-count, privilege-count}
 use Rattle.graph.specs.Graph as graph
 use Rattle.graph.specs.Conflicts as conflicts
 use Rattle.graph.specs.Closing.{close}
@@ -18,7 +20,7 @@ use Rattle.graph.specs.Refusing.{Verdict, passed, verdict}
 use Rattle.graph.specs.Refusing as refusing
 use Rattle.graph.proofs.Tables.{length-table}
 use Rattle.graph.specs.Reading.{sets-in}
-use Rattle.seats.specs.Seats.{State, fresh}
+use Rattle.seats.specs.Seats.{State, seat-count, fresh}
 use Rattle.seats.specs.Calls.{Call, change, declare, lift, assign, unassign, ask, checks, with-graph, with-conflicts, with-seats, after, reply, judged, settle, perform}
 use Rattle.seats.specs.Records.{Decoded, malformed, well-formed, decode, perform-decoded, step}
 use Rattle.seats.specs.Images.{end-sets, Entry, Contents, stored-pairs, restored, entry-checks, content-checks, Loaded, loaded, not-loaded, unless-refused, load-contents, settle-load, load-over}
@@ -29,11 +31,11 @@ use Rattle.keeper.specs.Block.{sets-word, conflicts-word, seats-word, bl
 use Rattle.keeper.specs.Exports.{given, call-block, load-block, fresh-block}
 use Rattle.keeper.proofs.BlockWords.{table-whole, regroup}
 
--- Each table of the state has its 64 entries.
+-- Each table of the state has its entries.
 pub record Sized (s : State) : Type 0 where
-  pub sets : length (s .graph .sets) ≡ 64
-  pub conflicts : length (s .graph .conflicts) ≡ 64
-  pub seats : length (s .seats) ≡ 64
+  pub sets : length (s .graph .sets) ≡ role-count
+  pub conflicts : length (s .graph .conflicts) ≡ privilege-count
+  pub seats : length (s .seats) ≡ seat-count
 
 -- ---- a state in a block
 
@@ -46,9 +48,9 @@ state-held s W z =
     let C = s .seats in
     let D = drop block-length W in
     let l = A ++ (B ++ (C ++ D)) in
-    let b : drop 64 l ≡ B ++ (C ++ D) = drop-at A (B ++ (C ++ D)) 64 (z .sets) in
-    let c : drop 128 l ≡ C ++ D = sym (drop-drop 64 64 l) ∙ ap (λ (k : List ℕ). drop 64 k) b ∙ drop-at B (C ++ D) 64 (z .conflicts) in
-    rw (regroup A B C D, b, c, take-at A (B ++ (C ++ D)) 64 (z .sets), take-at B (C ++ D) 64 (z .conflicts), take-at C D 64 (z .seats))
+    let b : drop role-count l ≡ B ++ (C ++ D) = drop-at A (B ++ (C ++ D)) role-count (z .sets) in
+    let c : drop (role-count + privilege-count) l ≡ C ++ D = sym (drop-drop privilege-count role-count l) ∙ ap (λ (k : List ℕ). drop privilege-count k) b ∙ drop-at B (C ++ D) privilege-count (z .conflicts) in
+    rw (regroup A B C D, b, c, take-at A (B ++ (C ++ D)) role-count (z .sets), take-at B (C ++ D) privilege-count (z .conflicts), take-at C D seat-count (z .seats))
 
 holding-length : (s : State) (W : List ℕ) → Sized s → block-length ≤ length W → length (holding s W) ≡ length W
 unfolding holding words-of
@@ -62,16 +64,16 @@ holding-length s W z l =
 pub block-sized : (W : List ℕ) → block-length ≤ length W → Sized (state-in W)
 unfolding sets-in
 block-sized W l = record {
-  sets = table-whole W sets-word (omega arith);
-  conflicts = table-whole W conflicts-word (omega arith);
-  seats = table-whole W seats-word (omega arith);
+  sets = table-whole W sets-word role-count (omega arith);
+  conflicts = table-whole W conflicts-word privilege-count (omega arith);
+  seats = table-whole W seats-word seat-count (omega arith);
 }
 
 -- ---- what keeps the tables' lengths
 
 after-sized : (s : State) (c : Call) → Sized s → Sized (after s c)
 unfolding after with-graph with-conflicts with-seats changed close conflicts.declare conflicts.lift put take-out
-after-sized s (change c) z = record { sets = length-table 64 _; conflicts = z .conflicts; seats = z .seats }
+after-sized s (change c) z = record { sets = length-table role-count _; conflicts = z .conflicts; seats = z .seats }
 after-sized s (declare a b) z = record { sets = z .sets; conflicts = simp length-set (z .conflicts); seats = z .seats }
 after-sized s (lift a b) z = record { sets = z .sets; conflicts = simp length-set (z .conflicts); seats = z .seats }
 after-sized s (assign a b) z = record { sets = z .sets; conflicts = z .conflicts; seats = simp length-set (z .seats) }
@@ -98,8 +100,8 @@ restored-sized : (c : Contents) → Sized (restored c)
 unfolding restored
 restored-sized c = record {
   sets = length-stored (c .roles) (end-sets (c .top));
-  conflicts = length-pairs (c .conflicts) (replicate 64 0);
-  seats = length-stored (c .seats) (replicate 64 0);
+  conflicts = length-pairs (c .conflicts) (replicate privilege-count empty);
+  seats = length-stored (c .seats) (replicate seat-count empty);
 }
 
 -- A load gives a sized state, or none.

@@ -1,23 +1,18 @@
--- A block as the words of its state and the words behind them: what writing tables and storing entries leaves.
+-- A block as the words of its state and the words behind them: what writing tables leaves.
 -- Assumes nothing.
-use mathlib.Core.Path.{_≡_, refl, sym, ap, _∙_}
-use mathlib.Core.Logic.{inl, inr}
-use mathlib.Core.List.{List, [], _∷_, _++_, append-assoc}
+use mathlib.Core.Path.{_≡_, sym, ap, ap₂, _∙_}
+use mathlib.Core.List.{List, _∷_, _++_, append-assoc}
 use Prim.Native.Nat.{ℕ, suc, _+_, _<_, _≤_}
-use native.Mathlib.Nat.{zero-add, suc-add}
 use native.Mathlib.Omega.{arith}
-use borrow.Author.Tests.{ltb-true}
-use lib.ListN.{length, getD, drop, set, length-append, length-drop, take-append-drop}
-use lib.Seq.{length-take-le, drop-cons, drop-drop, set-append-left, set-out}
-use lib.Dec.{ltb, nltb→le, not-T}
-use Rattle.sets.proofs.Tests.{passes, fails, decide}
+use lib.ListN.{length, getD, take, drop, set, length-append, length-drop, take-append-drop}
+use lib.Seq.{take-at, length-take-le, drop-cons, drop-drop}
+use Rattle.graph.specs.Graph.{role-count, privilege-count}
 use Rattle.graph.specs.Reading.{sets-in}
-use Rattle.seats.specs.Seats.{State}
+use Rattle.seats.specs.Seats.{State, seat-count}
 use Rattle.seats.specs.Calls.{with-graph, with-conflicts, with-seats}
 use Rattle.seats.specs.Written.{Written}
 use Rattle.seats.proofs.Written.{and-then, one-written, written-front}
-use Rattle.keeper.specs.Block.{sets-word, conflicts-word, seats-word, block-length, table-at, state-in, words-of, holding}
-use Rattle.keeper.specs.Working.{stored-at}
+use Rattle.keeper.specs.Block.{sets-word, conflicts-word, seats-word, block-length, table-at, sets-of, conflicts-of, seats-of, state-in, words-of, holding}
 
 -- ---- tables written
 
@@ -43,72 +38,64 @@ state-put s W l w x y =
 pub regroup : (a b c d : List ℕ) → (a ++ (b ++ c)) ++ d ≡ a ++ (b ++ (c ++ d))
 regroup a b c d = simp append-assoc
 
--- A table has its 64 entries.
-pub table-whole : (W : List ℕ) (i : ℕ) → i + 64 ≤ length W → length (table-at W i) ≡ 64
-table-whole W i l = length-take-le 64 (drop i W) (simp length-drop (omega arith))
+-- A table has its words.
+pub table-whole : (W : List ℕ) (i n : ℕ) → i + n ≤ length W → length (table-at W i n) ≡ n
+table-whole W i n l = length-take-le n (drop i W) (simp length-drop (omega arith))
 
 -- A table and the words behind it.
-next-table : (W : List ℕ) (i : ℕ) → drop i W ≡ table-at W i ++ drop (i + 64) W
-next-table W i = sym (take-append-drop 64 (drop i W)) ∙ ap (λ (k : List ℕ). table-at W i ++ k) (drop-drop 64 i W)
+next-table : (W : List ℕ) (i n : ℕ) → drop i W ≡ table-at W i n ++ drop (i + n) W
+next-table W i n = sym (take-append-drop n (drop i W)) ∙ ap (λ (k : List ℕ). table-at W i n ++ k) (drop-drop n i W)
 
 -- The last two tables and the words behind them.
-last-tables : (W : List ℕ) → drop conflicts-word W ≡ table-at W conflicts-word ++ (table-at W seats-word ++ drop block-length W)
-last-tables W = next-table W conflicts-word ∙ ap (λ (k : List ℕ). table-at W conflicts-word ++ k) (next-table W seats-word)
+last-tables : (W : List ℕ) → drop conflicts-word W ≡ conflicts-of W ++ (seats-of W ++ drop block-length W)
+last-tables W = next-table W conflicts-word privilege-count ∙ ap (λ (k : List ℕ). conflicts-of W ++ k) (next-table W seats-word seat-count)
 
 -- Roles and sets written before tables that stay.
-pub graph-put : (s : State) (W : List ℕ) {X : List ℕ} → block-length ≤ length W → s .graph .conflicts ≡ table-at W conflicts-word → s .seats ≡ table-at W seats-word → Written (set W 0 (s .graph .roles)) sets-word (s .graph .sets) X conflicts-word → X ≡ holding s W
+pub graph-put : (s : State) (W : List ℕ) {X : List ℕ} → block-length ≤ length W → s .graph .conflicts ≡ conflicts-of W → s .seats ≡ seats-of W → Written (set W 0 (s .graph .roles)) sets-word (s .graph .sets) X conflicts-word → X ≡ holding s W
 unfolding holding words-of
 graph-put s W l p q w =
     roles-put (s .graph .roles) W (omega arith) w
-    ∙ rw (last-tables W, p, q) (ap (λ (k : List ℕ). s .graph .roles ∷ k) (sym (regroup (s .graph .sets) (table-at W conflicts-word) (table-at W seats-word) (drop block-length W))))
+    ∙ rw (last-tables W, p, q) (ap (λ (k : List ℕ). s .graph .roles ∷ k) (sym (regroup (s .graph .sets) (conflicts-of W) (seats-of W) (drop block-length W))))
 
 -- The front of a block up to its conflicts, and the rest.
 front : List ℕ → List ℕ
-front W = getD W 0 0 ∷ table-at W sets-word
+front W = getD W 0 0 ∷ sets-of W
 
-laid : (W : List ℕ) → 0 < length W → W ≡ front W ++ (table-at W conflicts-word ++ (table-at W seats-word ++ drop block-length W))
+laid : (W : List ℕ) → 0 < length W → W ≡ front W ++ (conflicts-of W ++ (seats-of W ++ drop block-length W))
 unfolding front
-laid W l = drop-cons W 0 0 l ∙ ap (λ (k : List ℕ). getD W 0 0 ∷ k) (next-table W 1 ∙ ap (λ (k : List ℕ). table-at W sets-word ++ k) (last-tables W))
+laid W l = drop-cons W 0 0 l ∙ ap (λ (k : List ℕ). getD W 0 0 ∷ k) (next-table W sets-word role-count ∙ ap (λ (k : List ℕ). sets-of W ++ k) (last-tables W))
 
 -- A block holds its own state.
 pub holds-own : (W : List ℕ) → 0 < length W → holding (state-in W) W ≡ W
 unfolding holding words-of front sets-in
 holds-own W l = simp append-assoc (sym (laid W l))
 
--- ---- an entry stored
+-- ---- a part written
 
-set-behind : (P X : List ℕ) (n a : ℕ) → set (P ++ X) (length P + n) a ≡ P ++ set X n a
-set-behind [] X n a = ap (λ (k : ℕ). set X k a) (zero-add n)
-set-behind (p ∷ P) X n a = ap (λ (k : ℕ). set (p ∷ (P ++ X)) k a) (suc-add (length P) n) ∙ ap (λ (k : List ℕ). p ∷ k) (set-behind P X n a)
+-- The front of a block up to its conflicts is its first words.
+front-is : (W : List ℕ) → block-length ≤ length W → take conflicts-word W ≡ front W
+unfolding front
+front-is W l = ap (λ (k : List ℕ). take conflicts-word k) (laid W (omega arith)) ∙ take-at (front W) _ conflicts-word (ap suc (table-whole W sets-word role-count (omega arith)))
 
--- An entry of a table stored in the block is the table's entry stored.
-stored-in : (P T Q : List ℕ) (i n x : ℕ) → length P ≡ i → length T ≡ 64 → stored-at (P ++ (T ++ Q)) i n x ≡ P ++ (set T n x ++ Q)
-unfolding stored-at
-stored-in P T Q i n x l k = elim (decide (ltb n 64)) [
-  | inl t ↦ let h : n < length T = omega (arith, ltb-true n 64 (passes (ltb n 64) t)) in
-      rw (passes (ltb n 64) t, ← l, set-behind P (T ++ Q) n x, set-append-left T Q n x h)
-  | inr f ↦ let h : length T ≤ n = omega (arith, nltb→le n 64 (not-T (ltb n 64) f)) in rw (fails (ltb n 64) f, set-out T n x h)
-]
-
--- The conflicts of a privilege stored.
-pub conflicts-stored : (W : List ℕ) (n x : ℕ) → block-length ≤ length W → stored-at W conflicts-word n x ≡ holding (with-conflicts (state-in W) (set (state-in W .graph .conflicts) n x)) W
+-- The conflicts written over those of the block.
+pub conflicts-put : (W Y : List ℕ) {C : List ℕ} → block-length ≤ length W → sets-in Y ≡ C
+    → take conflicts-word W ++ (Y ++ drop privilege-count (drop conflicts-word W)) ≡ holding (with-conflicts (state-in W) C) W
 unfolding holding words-of front with-graph with-conflicts sets-in
-conflicts-stored W n x l =
-    let C = table-at W conflicts-word in
-    let S = table-at W seats-word in
+conflicts-put W Y {C} l e =
     let D = drop block-length W in
-    ap (λ (k : List ℕ). stored-at k conflicts-word n x) (laid W (omega arith))
-    ∙ stored-in (front W) C (S ++ D) conflicts-word n x (ap suc (table-whole W sets-word (omega arith))) (table-whole W conflicts-word (omega arith))
-    ∙ simp append-assoc
+    ap₂ (λ (F R : List ℕ). F ++ (Y ++ R)) (front-is W l) (drop-drop privilege-count conflicts-word W ∙ next-table W seats-word seat-count)
+    ∙ ap (λ (k : List ℕ). front W ++ (k ++ (seats-of W ++ D))) e
+    ∙ ap (λ (k : List ℕ). getD W 0 0 ∷ k) (sym (regroup (sets-of W) C (seats-of W) D))
 
--- The roles of a seat stored.
-pub roles-stored : (W : List ℕ) (n x : ℕ) → block-length ≤ length W → stored-at W seats-word n x ≡ holding (with-seats (state-in W) (set (state-in W .seats) n x)) W
+-- The seats' roles written over those of the block.
+pub seats-put : (W Y : List ℕ) {A : List ℕ} → block-length ≤ length W → Y ≡ A
+    → take seats-word W ++ (Y ++ drop seat-count (drop seats-word W)) ≡ holding (with-seats (state-in W) A) W
 unfolding holding words-of front with-seats sets-in
-roles-stored W n x l =
-    let C = table-at W conflicts-word in
-    let S = table-at W seats-word in
+seats-put W Y {A} l e =
     let D = drop block-length W in
-    let b : length (front W ++ C) ≡ seats-word = length-append (front W) C ∙ rw (ap suc (table-whole W sets-word (omega arith)), table-whole W conflicts-word (omega arith)) in
-    ap (λ (k : List ℕ). stored-at k seats-word n x) (laid W (omega arith) ∙ sym (append-assoc (front W) C (S ++ D)))
-    ∙ stored-in (front W ++ C) S D seats-word n x b (table-whole W seats-word (omega arith))
-    ∙ simp append-assoc
+    let b : length (front W ++ conflicts-of W) ≡ seats-word = length-append (front W) (conflicts-of W) ∙ rw (ap suc (table-whole W sets-word role-count (omega arith)), table-whole W conflicts-word privilege-count (omega arith)) in
+    let t : take seats-word W ≡ front W ++ conflicts-of W = ap (λ (k : List ℕ). take seats-word k) (laid W (omega arith) ∙ sym (append-assoc (front W) (conflicts-of W) _)) ∙ take-at (front W ++ conflicts-of W) _ seats-word b in
+    ap₂ (λ (F R : List ℕ). F ++ (Y ++ R)) t (drop-drop seat-count seats-word W)
+    ∙ ap (λ (k : List ℕ). (front W ++ conflicts-of W) ++ (k ++ D)) e
+    ∙ append-assoc (front W) (conflicts-of W) (A ++ D)
+    ∙ ap (λ (k : List ℕ). getD W 0 0 ∷ k) (sym (regroup (sets-of W) (conflicts-of W) A D))

@@ -5,3 +5,5 @@ pub mod BlockStates
 -- ---- answers as numbers
 pub mod CodedAnswer
 pub mod SaveCode
+-- ---- asks
+pub mod Asking

@@ -2,7 +2,7 @@
 -- A block with too few words is left alone, and so is the buffer; what is shown of it is empty.
 use mathlib.Core.Bool.{Bool, false}
 use mathlib.Core.List.{List}
-use Prim.Native.Nat.{ℕ}
+use Prim.Native.Nat.{ℕ, _+_}
 use Rattle.sets.specs.Sets.{empty}
 use Rattle.graph.specs.Tables.{at}
 use Rattle.graph.specs.Graph.{effective}
@@ -14,8 +14,8 @@ use Rattle.seats.specs.Records.{step}
 use Rattle.seats.specs.Images.{load-over}
 use Rattle.seats.specs.Saving.{save}
 use Rattle.seats.specs.ListTheorem.{ask-record}
-use Rattle.seats.specs.Asks.{yes-count}
-use Rattle.keeper.specs.Block.{holding, of-state, code-of, no-state, save-code}
+use Rattle.seats.specs.Asks.{is-yes, yes-count}
+use Rattle.keeper.specs.Block.{holding, of-state, code-of, no-state, not-saved, save-code}
 
 -- An answer's code, and the block with the state after it.
 unfoldable pub given : List ℕ → Answer × State → ℕ × List ℕ
@@ -33,9 +33,13 @@ call-block W l = of-state W (λ s. given W (step s l)) (no-state, W)
 unfoldable pub load-block : List ℕ → List ℕ → ℕ × List ℕ
 load-block W l = of-state W (λ s. given W (load-over s l)) (no-state, W)
 
--- The state's image at the buffer's front.
+-- The state's image at the buffer's front; a block with too few words has none, and its answer is no length either.
 unfoldable pub save-block : List ℕ → List ℕ → ℕ × List ℕ
-save-block W buffer = of-state W (λ s. let r = save s buffer in (save-code (r .0), r .1)) (no-state, buffer)
+save-block W buffer = of-state W (λ s. let r = save s buffer in (save-code (r .0), r .1)) (not-saved + no-state, buffer)
+
+-- Seat i may use privilege p: kind 12, given next, answers yes. A refusal is no yes, and neither is what a number above 63 is answered.
+unfoldable pub may-block : List ℕ → ℕ → ℕ → Bool
+may-block W i p = of-state W (λ s. is-yes (step s (ask-record i p) .0)) false
 
 -- The answer to a record that asks.
 unfoldable pub ask-block : List ℕ → ℕ → ℕ → ℕ

@@ -1,11 +1,12 @@
-// The words of a block: where its tables start, and tables, states and entries written into it.
+// The words of a block: where its tables start, and tables and states written into it.
 ghost use mathlib.Core.Path.{_≡_};
 ghost use Prim.Native.Nat.{_+_, _≤_};
 ghost use lib.ListN.{length};
+ghost use Rattle.graph.specs.Reading.{read-set};
 ghost use Rattle.seats.specs.Written.{Written};
 ghost use Rattle.seats.specs.Reading.{read-state};
-ghost use Rattle.keeper.specs.Block.{table-length, block-length, holding};
-ghost use Rattle.keeper.specs.Working.{stored-at};
+ghost use Rattle.keeper.specs.Block.{block-length, holding};
+use graph::PrivilegeSet;
 use seats::State;
 
 // Where the tables of sets, conflicts and seats start.
@@ -21,7 +22,7 @@ pub(crate) const WORDS: usize = SEATS + 64;
 // Writes a table, from a word on.
 pub(crate) fn put_table(block: &mut [u64], at: usize, table: &[u64; 64])
     requires { ⌜ at + 64 ≤ length (now block) ⌝ }
-    ensures { λ _. ⌜ Written (now (block .entry)) at (now (table .entry)) (now (block .exit)) (at + table-length) ⌝ }
+    ensures { λ _. ⌜ Written (now (block .entry)) at (now (table .entry)) (now (block .exit)) (at + 64) ⌝ }
 {
     let words = &table[..];
     for i in 0..64usize {
@@ -40,12 +41,9 @@ pub(crate) fn put_state(block: &mut [u64], state: State)
     put_table(block, SEATS, &state.seats);
 }
 
-// Stores entry n of the table that starts at a word; beyond the table's end nothing.
-pub(crate) fn store_at(block: &mut [u64], at: usize, n: usize, word: u64)
-    requires { ⌜ at + 64 ≤ length (now block) ⌝ }
-    ensures { λ _. ⌜ now (block .exit) ≡ stored-at (now (block .entry)) at n word ⌝ }
+// The word of a set of privileges, as a caller of the exported functions has it.
+pub(crate) fn word_of(set: PrivilegeSet) -> u64
+    ensures { λ r. ⌜ r ≡ read-set set ⌝ }
 {
-    if n < 64 {
-        block[at + n] = word;
-    }
+    set.word
 }

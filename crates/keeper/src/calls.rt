@@ -6,7 +6,7 @@ ghost use Rattle.graph.specs.Refusing.{verdict};
 ghost use Rattle.graph.specs.Reading.{no-sets, read-change};
 ghost use Rattle.seats.specs.Calls.{change, accepted, checks, after, settle, perform};
 ghost use Rattle.seats.specs.Reading.{state-of, read-answer, read-request, read-decision, read-changed};
-ghost use Rattle.keeper.specs.Block.{conflicts-word, seats-word, block-length, table-at, state-in};
+ghost use Rattle.keeper.specs.Block.{block-length, conflicts-of, seats-of, state-in};
 ghost use Rattle.keeper.specs.Exports.{given, fresh-block, call-block};
 use crate::block::CONFLICTS;
 use crate::block::SEATS;
@@ -14,11 +14,12 @@ use crate::block::SETS;
 use crate::block::WORDS;
 use crate::block::put_state;
 use crate::block::put_table;
-use crate::block::store_at;
 use crate::codes::NO_STATE;
 use crate::codes::code;
 use crate::codes::refusal_code;
 use graph::Change;
+use graph::table::store;
+use graph::table::store_roles;
 use seats::Answer;
 use seats::Call;
 use seats::Changed;
@@ -75,11 +76,13 @@ fn take_request(block: &mut [u64], request: Request) -> u32
     match stored {
         Stored::Nothing => code(answer),
         Stored::ConflictsOf(entry) => {
-            store_at(block, CONFLICTS, entry.lower, entry.higher.word);
+            let conflicts = &mut block[CONFLICTS..SEATS];
+            store(conflicts, entry.lower, entry.higher);
             code(answer)
         }
         Stored::RolesOf(entry) => {
-            store_at(block, SEATS, entry.seat, entry.roles);
+            let seats = &mut block[SEATS..WORDS];
+            store_roles(seats, entry.seat, entry.roles);
             code(answer)
         }
     }
@@ -88,7 +91,7 @@ fn take_request(block: &mut [u64], request: Request) -> u32
 // What a change comes to, decided on parts of the block.
 fn changed(block: &[u64], edit: Change) -> Changed
     requires { ⌜ block-length ≤ length (now block) ⌝ }
-    ensures { λ r. let W = now (block .entry) in let C = table-at W conflicts-word in let A = table-at W seats-word in let s = state-in W in let c = change (read-change edit) in let h = after s c in ⌜ read-changed r C A ≡ settle (verdict (checks s c h)) accepted (state-of (s .graph .roles) no-sets C A) h ⌝ }
+    ensures { λ r. let W = now (block .entry) in let C = conflicts-of W in let A = seats-of W in let s = state-in W in let c = change (read-change edit) in let h = after s c in ⌜ read-changed r C A ≡ settle (verdict (checks s c h)) accepted (state-of (s .graph .roles) no-sets C A) h ⌝ }
 {
     let sets = &block[SETS..CONFLICTS];
     let conflicts = &block[CONFLICTS..SEATS];

@@ -6,7 +6,9 @@ use crate::block::SEATS;
 use crate::block::SETS;
 use crate::block::WORDS;
 use crate::block::put_state;
+use crate::codes::NO_IMAGE;
 use crate::codes::NO_STATE;
+use crate::codes::NOT_SAVED;
 use crate::codes::code;
 use crate::codes::refusal_code;
 use seats::Answer;
@@ -15,13 +17,13 @@ use seats::loading;
 use seats::saving;
 use seats::tape;
 
-// Saves the block's state into the buffer: the length written, or 65536 and the refusal's code.
+// Saves the block's state into the buffer: the length written, or NOT_SAVED and the code of what hinders it.
 #[no_mangle]
 pub extern "C" fn keeper_save(block: &[u64], buffer: &mut [u8]) -> u32
     ensures { λ r. ⌜ (r, now (buffer .exit)) ≡ save-block (now (block .entry)) (now (buffer .entry)) ⌝ }
 {
     if block.len() < WORDS {
-        return NO_STATE;
+        return NO_IMAGE;
     }
     let sets = &block[SETS..CONFLICTS];
     let conflicts = &block[CONFLICTS..SEATS];
@@ -29,7 +31,7 @@ pub extern "C" fn keeper_save(block: &[u64], buffer: &mut [u8]) -> u32
     let filled = saving::save(block[0], sets, conflicts, seats, buffer);
     match filled {
         Filled::Written(n) => n as u32,
-        Filled::TooShort(refusal) => 65536 + refusal_code(refusal.number, refusal.place),
+        Filled::TooShort(refusal) => NOT_SAVED + refusal_code(refusal.number, refusal.place),
     }
 }
 

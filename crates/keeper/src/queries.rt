@@ -1,12 +1,14 @@
 // What a block's state shows: exported functions that change nothing.
 ghost use mathlib.Core.Path.{_≡_};
-ghost use Rattle.keeper.specs.Exports.{ask-block, count-yes-block, edge-count-block, effective-block, direct-block, juniors-block, seniors-block, below-block, declared-block, seat-roles-block, held-block};
+ghost use Rattle.keeper.specs.Exports.{may-block, ask-block, count-yes-block, edge-count-block, effective-block, direct-block, juniors-block, seniors-block, below-block, declared-block, seat-roles-block, held-block};
 use crate::block::CONFLICTS;
 use crate::block::SEATS;
 use crate::block::SETS;
 use crate::block::WORDS;
+use crate::block::word_of;
 use crate::codes::NO_STATE;
 use crate::codes::code;
+use crate::codes::is_yes;
 use graph::Privilege;
 use graph::Role;
 use graph::declaring;
@@ -15,7 +17,27 @@ use graph::table::entry;
 use seats::Seat;
 use seats::seating;
 
-// May the seat use the privilege: 1 for yes, 0 for no, or a refusal's code.
+// Whether the seat may use the privilege; a number that no record carries is answered no.
+#[no_mangle]
+pub extern "C" fn keeper_may(block: &[u64], seat: u32, privilege: u32) -> bool
+    ensures { λ r. ⌜ r ≡ may-block (now (block .entry)) seat privilege ⌝ }
+{
+    if block.len() < WORDS {
+        return false;
+    }
+    if 255 < seat {
+        return false;
+    }
+    if 255 < privilege {
+        return false;
+    }
+    let sets = &block[SETS..CONFLICTS];
+    let seats = &block[SEATS..WORDS];
+    let answer = seating::ask(sets, seats, Seat(seat as u8), Privilege(privilege as u8));
+    is_yes(answer)
+}
+
+// What a record that asks would be answered next: 1 for yes, 0 for no, or a refusal's code.
 #[no_mangle]
 pub extern "C" fn keeper_ask(block: &[u64], seat: u8, privilege: u8) -> u32
     ensures { λ r. ⌜ r ≡ ask-block (now (block .entry)) seat privilege ⌝ }
@@ -62,7 +84,7 @@ pub extern "C" fn keeper_effective(block: &[u64], role: u8) -> u64
         return 0;
     }
     let sets = &block[SETS..CONFLICTS];
-    entry(sets, role as usize).word
+    word_of(entry(sets, role as usize))
 }
 
 // The direct privileges of a role.
@@ -74,7 +96,7 @@ pub extern "C" fn keeper_direct(block: &[u64], role: u8) -> u64
         return 0;
     }
     let sets = &block[SETS..CONFLICTS];
-    drawing::direct_of(block[0], sets, Role(role)).word
+    word_of(drawing::direct_of(block[0], sets, Role(role)))
 }
 
 // The immediate juniors of a role.
@@ -147,5 +169,5 @@ pub extern "C" fn keeper_seat_holds(block: &[u64], seat: u8) -> u64
     }
     let sets = &block[SETS..CONFLICTS];
     let seats = &block[SEATS..WORDS];
-    seating::held_by(sets, seats, Seat(seat)).word
+    word_of(seating::held_by(sets, seats, Seat(seat)))
 }

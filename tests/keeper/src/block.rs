@@ -9,6 +9,7 @@ extern "C" {
     fn keeper_call(block: *mut u64, words: usize, bytes: *const u8, length: usize) -> u32;
     fn keeper_save(block: *const u64, words: usize, buffer: *mut u8, length: usize) -> u32;
     fn keeper_load(block: *mut u64, words: usize, bytes: *const u8, length: usize) -> u32;
+    fn keeper_may(block: *const u64, words: usize, seat: u32, privilege: u32) -> bool;
     fn keeper_ask(block: *const u64, words: usize, seat: u8, privilege: u8) -> u32;
     fn keeper_count_yes(block: *const u64, words: usize, asks: *const u8, length: usize) -> u64;
     fn keeper_edge_count(block: *const u64, words: usize) -> u32;
@@ -45,8 +46,12 @@ pub fn load(block: &mut [u64], bytes: &[u8]) -> u32 {
     unsafe { keeper_load(at, words, bytes.as_ptr(), bytes.len()) }
 }
 
-pub fn ask(block: &[u64], seat: u8, privilege: u8) -> u32 {
+pub fn may(block: &[u64], seat: u32, privilege: u32) -> bool {
     // SAFETY: the slice is valid for its length, here and in each reading below.
+    unsafe { keeper_may(block.as_ptr(), block.len(), seat, privilege) }
+}
+
+pub fn ask(block: &[u64], seat: u8, privilege: u8) -> u32 {
     unsafe { keeper_ask(block.as_ptr(), block.len(), seat, privilege) }
 }
 

@@ -10,7 +10,7 @@ pub const WORDS: usize = 193;
 pub const LONGEST_IMAGE: usize = 5182;
 /// The answer for a block of fewer words.
 pub const NO_STATE: u32 = 65535;
-/// What a refused save adds to its answer.
+/// What is added to the answer where nothing is saved.
 pub const NOT_SAVED: u32 = 65536;
 
 /// An answer's number and place.
@@ -38,7 +38,12 @@ impl Keeper {
         parts(block::call(&mut self.block, record))
     }
 
-    /// Whether a seat may use a privilege, as a record that asks is answered.
+    /// Whether a seat may use a privilege.
+    pub fn may(&self, seat: u32, privilege: u32) -> bool {
+        block::may(&self.block, seat, privilege)
+    }
+
+    /// What a record that asks would be answered: a refusal's number or 0, and the place.
     pub fn ask(&self, seat: u8, privilege: u8) -> (u8, u8) {
         parts(block::ask(&self.block, seat, privilege))
     }

@@ -44,6 +44,7 @@ fn record(random: &mut Random) -> Vec<u8> {
 
 /// What changes nothing, of a block without a state.
 fn shows_nothing(words: &[u64], a: u8, b: u8) {
+    assert!(!block::may(words, a.into(), b.into()));
     assert_eq!(block::ask(words, a, b), NO_STATE);
     assert_eq!(block::count_yes(words, &[a, b]), 0);
     assert_eq!(block::edge_count(words), 0);
@@ -69,7 +70,7 @@ fn a_short_block_is_left_alone() {
         assert_eq!(block::fresh(&mut after), NO_STATE);
         assert_eq!(block::call(&mut after, &bytes), NO_STATE);
         assert_eq!(block::load(&mut after, &bytes), NO_STATE);
-        assert_eq!(block::save(&after, &mut buffer), NO_STATE);
+        assert_eq!(block::save(&after, &mut buffer), NOT_SAVED + NO_STATE);
         assert_eq!(after, before);
         assert!(buffer.iter().all(|byte| *byte == FILLER));
     }
@@ -103,6 +104,18 @@ fn shows_its_words(words: &[u64], a: u8, b: u8) {
         _ => bit(held, b).into(),
     };
     assert_eq!(block::ask(words, a, b), asked);
+    may_as_asked(words, a, b);
+}
+
+/// A yes is what the ask answers with 1, and no number that a byte narrows is taken for another.
+fn may_as_asked(words: &[u64], a: u8, b: u8) {
+    let asked = block::ask(words, a, b) == 1;
+    let (a, b) = (u32::from(a), u32::from(b));
+    assert_eq!(block::may(words, a, b), asked);
+    for far in [256, 512, 1 << 16, 1 << 31] {
+        assert!(!block::may(words, a + far, b));
+        assert!(!block::may(words, a, b + far));
+    }
 }
 
 /// The yeses among many asks are those that each ask gives by itself; a byte left over asks nothing.

@@ -9,7 +9,7 @@ use Rattle.seats.specs.Calls.{reply, perform}
 use Rattle.seats.specs.Reading.{state-of, read-answer}
 use Rattle.seats.proofs.Written.{written-length}
 use Rattle.seats.proofs.Changing.{accepted-taken, other-taken}
-use Rattle.keeper.specs.Block.{conflicts-word, seats-word, table-at, state-in}
+use Rattle.keeper.specs.Block.{conflicts-of, seats-of, state-in}
 use Rattle.keeper.proofs.BlockWords.{graph-put, holds-own}
 use Rattle.keeper.proofs.CodedAnswer.{gives}
 use Rattle.keeper.proofs.calls.take_change.Statement.{statement}
@@ -40,7 +40,7 @@ returns c =
     let s = d .before .before .before in
     let W = s .args .block .now in
     let r = d .changed .result in
-    let h = state-of (r .roles) (r .sets) (table-at W conflicts-word) (table-at W seats-word) in
+    let h = state-of (r .roles) (r .sets) (conflicts-of W) (seats-of W) in
     gives W (read-answer (r .answer)) h (c .code .ensures) (graph-put h W (s .pre) refl refl (c .before .before .before .put-table .ensures))
     (accepted-taken _ _ _ (state-in W) (d .changed .ensures) (c .before .before .before .before .before .before .before .enum-told .given .1))
 

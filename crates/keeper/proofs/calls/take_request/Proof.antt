@@ -7,7 +7,7 @@ use borrow.Author.Needs.{needs}
 use Rattle.seats.specs.declared.Stored.{Stored}
 use Rattle.seats.specs.Reading.{read-answer, stored}
 use Rattle.keeper.specs.Block.{state-in}
-use Rattle.keeper.proofs.BlockWords.{holds-own, conflicts-stored, roles-stored}
+use Rattle.keeper.proofs.BlockWords.{holds-own, conflicts-put, seats-put}
 use Rattle.keeper.proofs.CodedAnswer.{gives}
 use Rattle.keeper.proofs.calls.take_request.Statement.{statement}
 use Rattle.keeper.proofs.calls.take_request.Tie as tie
@@ -21,14 +21,26 @@ enum-told c = search needs
 enum-known-stored : tie.Need-enum-known-stored
 enum-known-stored c = search needs
 
-store-at-requires : tie.Need-store-at-requires
-store-at-requires c κs = search needs
+sub-conflicts : tie.Need-sub-conflicts
+sub-conflicts c = search needs
+
+part-conflicts-start : tie.Need-part-conflicts-start
+part-conflicts-start c = search needs
+
+part-conflicts-end : tie.Need-part-conflicts-end
+part-conflicts-end c = search needs
 
 enum-known-stored-2 : tie.Need-enum-known-stored-2
 enum-known-stored-2 c = search needs
 
-store-at-requires-2 : tie.Need-store-at-requires-2
-store-at-requires-2 c κs = search needs
+sub-seats : tie.Need-sub-seats
+sub-seats c = search needs
+
+part-seats-start : tie.Need-part-seats-start
+part-seats-start c = search needs
+
+part-seats-end : tie.Need-part-seats-end
+part-seats-end c = search needs
 
 same-length : tie.Need-same-length
 same-length c = search needs
@@ -53,7 +65,7 @@ returns-2 c =
     let p = d .before .before .before in
     let W = p .args .block .now in
     let a = read-answer (d .decided .result .answer) in
-    gives W a _ (c .code2 .ensures) (c .before .before .before .store-at .ensures ∙ conflicts-stored W _ _ (p .pre))
+    gives W a _ (c .code2 .ensures) (conflicts-put W _ (p .pre) (c .before .before .before .store .ensures))
     (ap (λ (x : Stored). (a, stored (state-in W) x)) (sym (c .before .before .before .before .before .before .stored .given .1)) ∙ d .decided .ensures)
 
 same-length-3 : tie.Need-same-length-3
@@ -66,7 +78,7 @@ returns-3 c =
     let p = d .before .before .before in
     let W = p .args .block .now in
     let a = read-answer (d .decided .result .answer) in
-    gives W a _ (c .code3 .ensures) (c .before .before .before .store-at2 .ensures ∙ roles-stored W _ _ (p .pre))
+    gives W a _ (c .code3 .ensures) (seats-put W _ (p .pre) (c .before .before .before .store-roles .ensures))
     (ap (λ (x : Stored). (a, stored (state-in W) x)) (sym (c .before .before .before .before .before .before .stored2 .given .1)) ∙ d .decided .ensures)
 
 pub take-request-spec : {M : Type 1} → statement M
@@ -77,10 +89,16 @@ take-request-spec =
     enum-told
     (λ c κs. tt)
     enum-known-stored
-    store-at-requires
+    sub-conflicts
+    part-conflicts-start
+    part-conflicts-end
+    (λ c κs. tt)
     (λ c κs. tt)
     enum-known-stored-2
-    store-at-requires-2
+    sub-seats
+    part-seats-start
+    part-seats-end
+    (λ c κs. tt)
     (λ c κs. tt)
     same-length
     returns

@@ -7,7 +7,7 @@ use borrow.Author.Needs.{needs}
 use borrow.Author.Tests.{lt-leb, le-leb}
 use Rattle.seats.specs.Reading.{read-filled}
 use Rattle.seats.specs.declared.Filled.{Filled}
-use Rattle.keeper.specs.Block.{state-in, of-state, save-code}
+use Rattle.keeper.specs.Block.{state-in, of-state, not-saved, save-code}
 use Rattle.keeper.specs.Exports.{save-block}
 use Rattle.keeper.proofs.SaveCode.{written-le, saves}
 use Rattle.keeper.proofs.images.keeper_save.Statement.{statement}
@@ -85,7 +85,7 @@ returns-3 c =
     let v = c .before .before .before .before .before .before in
     let b = v .before .before .before .before .before .before in
     let s = b .before .before .before in
-    let e = ap (λ (k : ℕ). 65536 + k) (c .refusal-code .ensures .0) ∙ sym (ap (λ (k : Filled). save-code (read-filled k)) (c .before .before .filled2 .given .1)) in
+    let e = ap (λ (k : ℕ). not-saved + k) (c .refusal-code .ensures .0) ∙ sym (ap (λ (k : Filled). save-code (read-filled k)) (c .before .before .filled2 .given .1)) in
     rw (le-leb _ _ (b .if1 .left)) (saves (state-in (s .args .block .now)) (s .args .buffer .now) e (v .save .ensures))
 
 pub keeper-save-spec : {M : Type 1} → statement M

@@ -1,5 +1,6 @@
 -- `keeper::queries::keeper_direct` meets its contract, by a part of the block.
 -- Assumes nothing.
+use mathlib.Core.Path.{_∙_}
 use borrow.Author.Needs.{needs}
 use borrow.Author.Tests.{lt-leb, le-leb}
 use Rattle.graph.specs.Graph.{ordinary, present, effective}
@@ -27,7 +28,7 @@ shared-slice-read-direct-of c = search needs
 
 returns-2 : tie.Need-returns-2
 unfolding direct-block of-state direct edge below ordinary present effective
-returns-2 c = rw (le-leb _ _ (c .before .before .before .if1 .left)) (c .direct-of .ensures)
+returns-2 c = rw (le-leb _ _ (c .before .before .before .before .if1 .left)) (c .word-of .ensures ∙ c .before .direct-of .ensures)
 
 pub keeper-direct-spec : {M : Type 1} → statement M
 keeper-direct-spec =
@@ -38,5 +39,6 @@ keeper-direct-spec =
     part-sets-start
     part-sets-end
     shared-slice-read-direct-of
+    (λ c κs. tt)
     (λ c κs. tt)
     returns-2)

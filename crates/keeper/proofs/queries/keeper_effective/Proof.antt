@@ -1,5 +1,6 @@
 -- `keeper::queries::keeper_effective` meets its contract, by a part of the block.
 -- Assumes nothing.
+use mathlib.Core.Path.{_∙_}
 use borrow.Author.Needs.{needs}
 use borrow.Author.Tests.{lt-leb, le-leb}
 use Rattle.graph.specs.Graph.{effective}
@@ -23,8 +24,8 @@ part-sets-end c = search needs
 
 returns-2 : tie.Need-returns-2
 unfolding effective-block of-state effective
-returns-2 c = rw (le-leb _ _ (c .before .before .if1 .left)) (c .entry .ensures)
+returns-2 c = rw (le-leb _ _ (c .before .before .before .if1 .left)) (c .word-of .ensures ∙ c .before .entry .ensures)
 
 pub keeper-effective-spec : {M : Type 1} → statement M
 keeper-effective-spec =
-    tie.close (tie.spec returns sub-sets part-sets-start part-sets-end (λ c κs. tt) returns-2)
+    tie.close (tie.spec returns sub-sets part-sets-start part-sets-end (λ c κs. tt) (λ c κs. tt) returns-2)

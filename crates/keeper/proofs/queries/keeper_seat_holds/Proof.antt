@@ -1,5 +1,6 @@
 -- `keeper::queries::keeper_seat_holds` meets its contract, by two parts of the block.
 -- Assumes nothing.
+use mathlib.Core.Path.{_∙_}
 use borrow.Author.Needs.{needs}
 use borrow.Author.Tests.{lt-leb, le-leb}
 use Rattle.keeper.specs.Block.{of-state}
@@ -31,7 +32,7 @@ part-seats-end c = search needs
 
 returns-2 : tie.Need-returns-2
 unfolding held-block of-state
-returns-2 c = rw (le-leb _ _ (c .before .before .before .if1 .left)) (c .held-by .ensures _ _)
+returns-2 c = rw (le-leb _ _ (c .before .before .before .before .if1 .left)) (c .word-of .ensures ∙ c .before .held-by .ensures _ _)
 
 pub keeper-seat-holds-spec : {M : Type 1} → statement M
 keeper-seat-holds-spec =
@@ -44,5 +45,6 @@ keeper-seat-holds-spec =
     sub-seats
     part-seats-start
     part-seats-end
+    (λ c κs. tt)
     (λ c κs. tt)
     returns-2)
