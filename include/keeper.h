@@ -58,7 +58,7 @@ extern "C" {
 #define KEEPER_LONGEST_IMAGE 5182
 
 /* How many bytes of stack a call takes at the most. */
-#define KEEPER_STACK 8192
+#define KEEPER_STACK 16384
 
 /* The compiler warns where what a function gives is ignored. */
 #if defined(__GNUC__) || defined(__clang__)
@@ -73,8 +73,8 @@ extern "C" {
  *
  * An answer is 0 for accepted, 1 or 0 for an ask's yes or no, or 256 times a refusal's number plus its place. So
  * `if (keeper_ask(..))` is a mistake: a refusal is not 0 either. Ask keeper_may, or compare with 1.
- * What keeper_save and keeper_image_length give is a length where it is below KEEPER_NOT_SAVED, and otherwise
- * KEEPER_NOT_SAVED plus an answer, which no buffer is as long as.
+ * What keeper_save gives is a length where it is below KEEPER_NOT_SAVED, and otherwise KEEPER_NOT_SAVED plus an answer,
+ * which is no image's length.
  */
 
 /* The answer for a block of fewer than KEEPER_WORDS words. */
