@@ -1,6 +1,6 @@
 //! Blocks of any length and any contents: every function answers, and touches only what it should.
 
-use keeper::{block, LONGEST_IMAGE, NOT_SAVED, NO_STATE, WORDS};
+use keeper::block::{self, LONGEST_IMAGE, NOT_SAVED, NO_STATE, WORDS};
 use role_reference::random::{printed_seed, Random};
 
 const FILLER: u8 = 0xA5;

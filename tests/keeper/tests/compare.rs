@@ -1,6 +1,7 @@
 //! The proved keeper beside the reference: random lists of calls, loads and saves, and what each shows of its state.
 
 use keeper::Keeper;
+use keeper_tests::Kept;
 use role_reference::compare::{run, Counts};
 use role_reference::generate::random_state;
 use role_reference::random::{printed_seed, Random};
@@ -12,7 +13,7 @@ const IMAGES: usize = 50_000;
 /// A run that misses a kind, a refusal, or a refusal that a kind can meet fails.
 #[test]
 fn the_keeper_agrees_with_the_reference() {
-    let counts = run::<Keeper>(printed_seed(), CALLS, IMAGES);
+    let counts = run::<Kept>(printed_seed(), CALLS, IMAGES);
     let counts: Counts = counts.unwrap_or_else(|failure| panic!("{failure}"));
     println!("{counts}");
     assert!(counts.calls >= CALLS && counts.images >= IMAGES);
@@ -48,7 +49,7 @@ fn same_order(keeper: &Keeper, reference: &Reference) {
                 seniors |= 1 << senior;
             }
         }
-        assert_eq!(keeper.seniors(junior), seniors);
+        assert_eq!(keeper.seniors(junior).0, seniors);
     }
 }
 
@@ -67,7 +68,7 @@ fn same_seats(keeper: &Keeper, reference: &Reference) {
     for seat in 0..64 {
         let roles = (0..64).filter(|role| has(reference.roles_of_seat(seat), *role));
         let held = roles.fold(0, |held, role| held | reference.effective(role));
-        assert_eq!(keeper.seat_holds(seat), held);
+        assert_eq!(keeper.seat_holds(seat).0, held);
     }
 }
 
@@ -77,7 +78,7 @@ fn the_keeper_shows_what_the_reference_does() {
     for _ in 0..300 {
         let reference = random_state(&mut random);
         let mut keeper = Keeper::fresh();
-        assert_eq!(keeper.load(&reference.save()), (0, 0));
+        assert_eq!(keeper.load(&reference.save()), Ok(()));
         same_order(&keeper, &reference);
         same_pairs(&keeper, &reference);
         same_seats(&keeper, &reference);

@@ -1,5 +1,6 @@
 //! The C header, the wrapper's declarations and the Rattle source declare the same functions.
 
+use keeper::{block, Call, Refusal, RECORD_LENGTH};
 use std::collections::BTreeMap;
 use std::fs;
 use std::path::Path;
@@ -62,13 +63,15 @@ fn header() -> Functions {
 
 // ---- the wrapper ----
 
-fn wrapper() -> Functions {
-    let text = text("src/block.rs");
+/// The functions of the block `extern "C"` of a Rust file.
+fn declared(path: &str) -> Functions {
+    let text = text(path);
     let (_, block) = text.split_once("extern \"C\" {").expect("a block");
-    let (block, _) = block.split_once("\n}").expect("the block's end");
+    let (block, _) = block.split_once('}').expect("the block's end");
     let function = |part: &str| {
         let (name, rest) = part.split_once('(').expect("a parenthesis");
-        let (list, result) = rest.split_once(") -> ").expect("a result");
+        let (list, result) = rest.split_once(')').expect("the list's end");
+        let result = result.trim().strip_prefix("-> ").expect("a result");
         let split = |part: &str| {
             let (name, of) = part.split_once(": ").expect("a name and a type");
             pair(name, of)
@@ -78,8 +81,11 @@ fn wrapper() -> Functions {
     };
     let parts = block
         .split(';')
-        .filter_map(|part| part.trim().strip_prefix("fn "));
-    parts.map(function).collect()
+        .map(|part| part.trim().trim_start_matches("pub "));
+    parts
+        .filter_map(|part| part.strip_prefix("fn "))
+        .map(function)
+        .collect()
 }
 
 // ---- the Rattle source ----
@@ -123,13 +129,22 @@ fn source() -> Functions {
 
 #[test]
 fn the_header_declares_what_the_wrapper_does() {
-    assert_eq!(header(), wrapper());
+    assert_eq!(header(), declared("../../bindings/rust/src/block.rs"));
+}
+
+#[test]
+fn the_header_declares_what_the_benchmark_calls() {
+    let (header, called) = (header(), declared("../../bench/src/exports.rs"));
+    assert!(!called.is_empty());
+    for (name, signature) in called {
+        assert_eq!(header.get(&name), Some(&signature), "{name}");
+    }
 }
 
 #[test]
 fn the_header_declares_what_the_source_exports() {
     let (header, source) = (header(), source());
-    assert_eq!(header.len(), 16);
+    assert_eq!(header.len(), 17);
     assert_eq!(header, source);
 }
 
@@ -137,13 +152,80 @@ fn the_header_declares_what_the_source_exports() {
 fn the_header_has_the_wrappers_constants() {
     let text = text("../../include/keeper.h");
     let constants = [
-        ("KEEPER_WORDS", keeper::WORDS as u64),
-        ("KEEPER_LONGEST_IMAGE", keeper::LONGEST_IMAGE as u64),
-        ("KEEPER_NO_STATE", keeper::NO_STATE.into()),
-        ("KEEPER_NOT_SAVED", keeper::NOT_SAVED.into()),
+        ("KEEPER_WORDS", block::WORDS as u64),
+        ("KEEPER_RECORD", RECORD_LENGTH as u64),
+        ("KEEPER_LONGEST_IMAGE", block::LONGEST_IMAGE as u64),
+        ("KEEPER_NO_STATE", block::NO_STATE.into()),
+        ("KEEPER_NOT_SAVED", block::NOT_SAVED.into()),
     ];
     for (name, value) in constants {
         let line = format!("#define {name} {value}");
         assert!(text.lines().any(|found| found == line), "{line}");
+    }
+}
+
+#[test]
+fn the_version_is_one() {
+    let version = |path: &str, line: &str| {
+        let found = text(path).lines().filter(|found| *found == line).count();
+        assert_eq!(found, 1, "{path} has no line {line}");
+    };
+    let own = env!("CARGO_PKG_VERSION");
+    version(
+        "../../include/keeper.h",
+        &format!("#define KEEPER_VERSION \"{own}\""),
+    );
+    version("../../Makefile", &format!("VERSION = {own}"));
+    version("../../CHANGELOG.md", &format!("## {own}"));
+    for manifest in ["../../bindings/rust/Cargo.toml", "../../cli/Cargo.toml"] {
+        version(manifest, &format!("version = \"{own}\""));
+    }
+}
+
+/// The names and numbers of a C enum of the header.
+fn named(name: &str) -> Vec<(String, u8)> {
+    let text = text("../../include/keeper.h");
+    let (_, rest) = text
+        .split_once(&format!("enum {name} {{"))
+        .expect("an enum");
+    let (list, _) = rest.split_once("};").expect("its end");
+    let lines = list
+        .lines()
+        .filter_map(|line| line.trim().split_once(" = "));
+    let value = |value: &str| value.trim_end_matches(',').parse().expect("a number");
+    lines
+        .map(|(name, number)| (name.to_string(), value(number)))
+        .collect()
+}
+
+/// A variant's name as C spells it.
+fn of_variant(variant: &dyn std::fmt::Debug) -> String {
+    let shown = format!("{variant:?}");
+    let name = shown.split(' ').next().expect("a name");
+    let spelled = |c: char| match c.is_uppercase() {
+        true => format!("_{c}"),
+        false => c.to_uppercase().to_string(),
+    };
+    "KEEPER".to_string() + &name.chars().map(spelled).collect::<String>()
+}
+
+#[test]
+fn the_header_names_the_wrappers_refusals() {
+    let header = named("keeper_refusal");
+    assert_eq!(header.len(), 20);
+    for (name, number) in header {
+        assert_eq!(of_variant(&Refusal::of(number, 0)), name);
+    }
+}
+
+#[test]
+fn the_header_names_the_wrappers_kinds() {
+    let header = named("keeper_kind");
+    assert_eq!(header.len(), 12);
+    for (name, kind) in header {
+        let mut record = [0; RECORD_LENGTH];
+        record[0] = kind;
+        let call = Call::of_record(&record).expect("a call");
+        assert_eq!(of_variant(&call), name);
     }
 }

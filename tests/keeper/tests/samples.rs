@@ -1,6 +1,6 @@
 //! Document 01's sample tape, its saved sample, and what it says of the edges of a record and an image.
 
-use keeper::Keeper;
+use keeper::{Answer, Keeper, Refusal};
 use role_reference::generate::{record, short};
 use role_reference::reference::RECORD_LENGTH;
 
@@ -10,7 +10,7 @@ fn printed(tape: &[u8]) -> String {
     let mut lines = String::new();
     let mut count = 0;
     for record in tape.chunks(RECORD_LENGTH) {
-        let (number, place) = keeper.call(record);
+        let (number, place) = keeper_tests::printed(keeper.record(record));
         count += 1;
         lines += &format!("{count} {number} {place}\n");
     }
@@ -31,7 +31,7 @@ fn sample() -> [Vec<u8>; 6] {
 fn after_sample() -> Keeper {
     let mut keeper = Keeper::fresh();
     for record in sample() {
-        keeper.call(&record);
+        let _ = keeper.record(&record);
     }
     keeper
 }
@@ -72,7 +72,7 @@ fn the_sample_is_saved() {
 fn the_saved_sample_loads_behind_other_bytes() {
     let mut keeper = Keeper::fresh();
     let bytes = [&[0xA5; 7][..], &SAVED].concat();
-    assert_eq!(keeper.load(&bytes), (0, 0));
+    assert_eq!(keeper.load(&bytes), Ok(()));
     assert_eq!(keeper, after_sample());
 }
 
@@ -81,19 +81,20 @@ fn a_record_has_32_bytes() {
     let ask = short(12, 5, 1);
     let longer = [&ask[..], &[0]].concat();
     let mut keeper = after_sample();
-    assert_eq!(keeper.call(&ask), (0, 1));
-    assert_eq!(keeper.call(&ask[..31]), (1, 0));
-    assert_eq!(keeper.call(&longer), (1, 0));
+    assert_eq!(keeper.record(&ask), Ok(Answer::Yes));
+    assert_eq!(keeper.record(&ask[..31]), Err(Refusal::Malformed));
+    assert_eq!(keeper.record(&longer), Err(Refusal::Malformed));
 }
 
 #[test]
 fn privilege_63_is_known() {
     let mut keeper = after_sample();
-    assert_eq!(keeper.call(&short(12, 5, 63)), (0, 0));
-    assert_eq!(keeper.call(&short(12, 5, 64)), (2, 64));
-    assert_eq!(keeper.ask(5, 63), (0, 0));
-    assert_eq!(keeper.ask(5, 64), (2, 64));
-    assert_eq!(keeper.ask(64, 64), (2, 64));
+    let above = Refusal::UnknownNumber { number: 64 };
+    assert_eq!(keeper.record(&short(12, 5, 63)), Ok(Answer::No));
+    assert_eq!(keeper.record(&short(12, 5, 64)), Err(above));
+    assert_eq!(keeper.ask(5, 63), Ok(false));
+    assert_eq!(keeper.ask(5, 64), Err(above));
+    assert_eq!(keeper.ask(64, 64), Err(above));
 }
 
 #[test]
@@ -101,9 +102,9 @@ fn a_fresh_image_has_16_bytes() {
     let image = Keeper::fresh().save();
     assert_eq!(image.len(), 16);
     let mut keeper = after_sample();
-    assert_eq!(keeper.load(&image[1..]), (6, 0));
+    assert_eq!(keeper.load(&image[1..]), Err(Refusal::NoImage));
     assert_eq!(keeper, after_sample());
-    assert_eq!(keeper.load(&image), (0, 0));
+    assert_eq!(keeper.load(&image), Ok(()));
     assert_eq!(keeper, Keeper::fresh());
 }
 
@@ -111,7 +112,8 @@ fn a_fresh_image_has_16_bytes() {
 fn a_short_buffer_is_refused_and_left() {
     let keeper = after_sample();
     let mut buffer = [0xA5; 50];
-    assert_eq!(keeper.save_into(&mut buffer[..44]), Err(9));
+    let short = keeper.save_into(&mut buffer[..44]);
+    assert_eq!(short, Err(Refusal::ShortBuffer));
     assert_eq!(buffer, [0xA5; 50]);
     assert_eq!(keeper.save_into(&mut buffer), Ok(45));
     assert_eq!(buffer[..45], SAVED);

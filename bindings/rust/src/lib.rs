@@ -1,0 +1,220 @@
+//! The TraceBench role keeper for Rust: may this seat use this privilege?
+//!
+//! A [`Keeper`] owns its whole state; nothing else is allocated but the image that [`Keeper::save`] gives.
+//! The functions behind it are proved; `docs/REFERENCE.md` has the model, the calls and the refusals.
+//!
+//! ```
+//! use keeper::{Call, Keeper, Refusal, Set};
+//!
+//! let mut keeper = Keeper::fresh();
+//! keeper.call(&Call::AddByPrivileges { role: 2, effective: Set::of(&[0, 1]) })?;
+//! keeper.call(&Call::Assign { seat: 5, role: 2 })?;
+//! assert!(keeper.may(5, 1));
+//! assert!(!keeper.may(5, 2));
+//!
+//! let refused = keeper.call(&Call::Assign { seat: 5, role: 3 });
+//! assert_eq!(refused, Err(Refusal::RoleAbsent { role: 3 }));
+//! assert_eq!(refused.unwrap_err().to_string(), "there is no role 3");
+//! # Ok::<(), Refusal>(())
+//! ```
+
+pub mod block;
+mod call;
+mod refusal;
+mod set;
+
+pub use block::{LONGEST_IMAGE, WORDS};
+pub use call::{Call, RECORD_LENGTH};
+pub use refusal::Refusal;
+pub use set::{Set, NUMBERS};
+
+use block::NOT_SAVED;
+
+/// The number of MinRole, which lies below all other roles.
+pub const MIN_ROLE: u8 = 0;
+/// The number of MaxRole, which lies above all other roles.
+pub const MAX_ROLE: u8 = 1;
+
+/// What a call that is not refused is answered.
+#[derive(Clone, Copy, PartialEq, Eq, Hash, Debug)]
+pub enum Answer {
+    /// A call of kinds 1 to 11.
+    Accepted,
+    /// An ask: the seat may use the privilege.
+    Yes,
+    /// An ask: the seat may not.
+    No,
+}
+
+/// Nothing for the answer 0, or the refusal.
+fn accepted(answer: u32) -> Result<(), Refusal> {
+    match answer {
+        0 => Ok(()),
+        _ => Err(Refusal::of_answer(answer)),
+    }
+}
+
+/// The length, or the refusal that stands in its place.
+fn length(answer: u32) -> Result<usize, Refusal> {
+    match answer.checked_sub(NOT_SAVED) {
+        None => Ok(answer as usize),
+        Some(refusal) => Err(Refusal::of_answer(refusal)),
+    }
+}
+
+/// How long the image is that ends the bytes; what precedes it is not read. Refused as loading is.
+pub fn image_length(bytes: &[u8]) -> Result<usize, Refusal> {
+    length(block::image_length(bytes))
+}
+
+/// A keeper: the roles with their privileges, the conflicts, and the roles of the seats.
+#[derive(Clone, PartialEq, Eq, Debug)]
+pub struct Keeper {
+    block: [u64; WORDS],
+}
+
+impl Default for Keeper {
+    fn default() -> Keeper {
+        Keeper::fresh()
+    }
+}
+
+impl Keeper {
+    /// A fresh keeper: MinRole and MaxRole alone, no conflict, no seat with a role.
+    pub fn fresh() -> Keeper {
+        let mut block = [0; WORDS];
+        let answer = block::fresh(&mut block);
+        assert_eq!(answer, 0, "a block of {WORDS} words holds a state");
+        Keeper { block }
+    }
+
+    /// The keeper of the image that ends the bytes.
+    pub fn of_image(bytes: &[u8]) -> Result<Keeper, Refusal> {
+        let mut keeper = Keeper::fresh();
+        keeper.load(bytes)?;
+        Ok(keeper)
+    }
+
+    /// Takes a call.
+    pub fn call(&mut self, call: &Call) -> Result<Answer, Refusal> {
+        self.record(&call.record())
+    }
+
+    /// Takes a record of any bytes and any length.
+    pub fn record(&mut self, record: &[u8]) -> Result<Answer, Refusal> {
+        match (block::call(&mut self.block, record), record.first()) {
+            (1, Some(12)) => Ok(Answer::Yes),
+            (0, Some(12)) => Ok(Answer::No),
+            (answer, _) => accepted(answer).map(|()| Answer::Accepted),
+        }
+    }
+
+    /// Whether a seat may use a privilege, or the refusal of a number above 63.
+    pub fn ask(&self, seat: u8, privilege: u8) -> Result<bool, Refusal> {
+        match block::ask(&self.block, seat, privilege) {
+            1 => Ok(true),
+            answer => accepted(answer).map(|()| false),
+        }
+    }
+
+    /// Whether a seat may use a privilege; false for every number above 63.
+    pub fn may(&self, seat: u32, privilege: u32) -> bool {
+        block::may(&self.block, seat, privilege)
+    }
+
+    /// How many of the asks, a seat and a privilege each, are answered yes.
+    pub fn count_yes(&self, asks: &[[u8; 2]]) -> u64 {
+        block::count_yes(&self.block, &asks.concat())
+    }
+
+    /// Loads the image that ends the bytes; a refused load keeps the state.
+    pub fn load(&mut self, bytes: &[u8]) -> Result<(), Refusal> {
+        accepted(block::load(&mut self.block, bytes))
+    }
+
+    /// Writes the image to the buffer's front and gives its length; touches nothing behind it, and nothing where it is refused.
+    pub fn save_into(&self, buffer: &mut [u8]) -> Result<usize, Refusal> {
+        length(block::save(&self.block, buffer))
+    }
+
+    /// The image.
+    pub fn save(&self) -> Vec<u8> {
+        let mut image = vec![0; LONGEST_IMAGE];
+        let length = self.save_into(&mut image);
+        image.truncate(length.expect("every image fits"));
+        image
+    }
+
+    /// The ordinary roles that are present.
+    pub fn roles(&self) -> Set {
+        Set(self.block[0])
+    }
+
+    /// How many edges are drawn.
+    pub fn edge_count(&self) -> u32 {
+        block::edge_count(&self.block)
+    }
+
+    /// The drawn edges, junior and senior, ascending by junior, then senior.
+    pub fn edges(&self) -> Vec<(u8, u8)> {
+        let from = |junior| {
+            let seniors = self.seniors(junior).members();
+            seniors.map(move |senior| (junior, senior))
+        };
+        (0..NUMBERS).flat_map(from).collect()
+    }
+
+    /// The effective privileges of a role.
+    pub fn effective(&self, role: u8) -> Set {
+        Set(block::effective(&self.block, role))
+    }
+
+    /// The direct privileges of a role: its effective ones that no immediate junior has.
+    pub fn direct(&self, role: u8) -> Set {
+        Set(block::direct(&self.block, role))
+    }
+
+    /// The immediate juniors of a role.
+    pub fn juniors(&self, role: u8) -> Set {
+        Set(block::juniors(&self.block, role))
+    }
+
+    /// The immediate seniors of a role.
+    pub fn seniors(&self, role: u8) -> Set {
+        Set(block::seniors(&self.block, role))
+    }
+
+    /// Whether the first role lies below the second.
+    pub fn is_below(&self, junior: u8, senior: u8) -> bool {
+        block::is_below(&self.block, junior, senior)
+    }
+
+    /// Whether the conflict of two privileges is declared.
+    pub fn is_declared(&self, first: u8, second: u8) -> bool {
+        block::is_declared(&self.block, first, second)
+    }
+
+    /// The declared conflicts, the lower privilege first, ascending.
+    pub fn conflicts(&self) -> Vec<(u8, u8)> {
+        let pairs =
+            (0..NUMBERS).flat_map(|lower| (lower..NUMBERS).map(move |higher| (lower, higher)));
+        pairs
+            .filter(|(lower, higher)| self.is_declared(*lower, *higher))
+            .collect()
+    }
+
+    /// The roles of a seat.
+    pub fn seat_roles(&self, seat: u8) -> Set {
+        Set(block::seat_roles(&self.block, seat))
+    }
+
+    /// What a seat holds: the union of the effective privileges of its roles.
+    pub fn seat_holds(&self, seat: u8) -> Set {
+        Set(block::seat_holds(&self.block, seat))
+    }
+
+    /// The block's words, as include/keeper.h lays them out.
+    pub fn words(&self) -> &[u64; WORDS] {
+        &self.block
+    }
+}

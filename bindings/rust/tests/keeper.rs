@@ -1,0 +1,310 @@
+//! The wrapper over the archive: calls and their records, refusals and their words, asks, images, and what a keeper shows.
+
+use keeper::{block, image_length, Answer, Call, Keeper, Refusal, Set, WORDS};
+
+/// Document 01's sample: its six calls, of which the fifth is refused.
+const SAMPLE: [Call; 6] = [
+    Call::AddByPrivileges {
+        role: 2,
+        effective: Set::of(&[0]),
+    },
+    Call::AddByPrivileges {
+        role: 3,
+        effective: Set::of(&[0, 1]),
+    },
+    Call::Declare {
+        first: 0,
+        second: 2,
+    },
+    Call::Assign { seat: 5, role: 3 },
+    Call::Grant {
+        privilege: 2,
+        role: 2,
+    },
+    Call::Ask {
+        seat: 5,
+        privilege: 1,
+    },
+];
+
+/// The state after the sample.
+fn sample() -> Keeper {
+    let mut keeper = Keeper::fresh();
+    for call in &SAMPLE {
+        let _ = keeper.call(call);
+    }
+    keeper
+}
+
+// ---- calls ----
+
+/// A record by its first bytes and its sets.
+fn bytes(front: [u8; 3], sets: [u64; 3]) -> Vec<u8> {
+    let mut record = front.to_vec();
+    record.resize(8, 0);
+    record.extend(sets.iter().flat_map(|set| set.to_le_bytes()));
+    record
+}
+
+#[test]
+fn each_kind_with_sets_has_its_record() {
+    let placed = Call::AddByPlace {
+        role: 5,
+        direct: Set::of(&[0, 1]),
+        juniors: Set::of(&[2]),
+        seniors: Set::of(&[63]),
+    };
+    has_record(placed, bytes([1, 5, 0], [3, 4, 1 << 63]));
+    let effective = Set::of(&[0, 8]);
+    let held = Call::AddByPrivileges { role: 5, effective };
+    has_record(held, bytes([2, 5, 0], [257, 0, 0]));
+}
+
+#[test]
+fn each_kind_without_sets_has_its_record() {
+    let (role, seat, privilege) = (5, 6, 7);
+    let (junior, senior, first, second) = (8, 9, 10, 11);
+    let kinds = [
+        (Call::RemoveRole { role, keep: false }, [3, 5, 0]),
+        (Call::RemoveRole { role, keep: true }, [3, 5, 1]),
+        (Call::Grant { privilege, role }, [4, 5, 7]),
+        (Call::Withdraw { privilege, role }, [5, 5, 7]),
+        (Call::AddEdge { junior, senior }, [6, 8, 9]),
+        (Call::RemoveEdge { junior, senior }, [7, 8, 9]),
+        (Call::Declare { first, second }, [8, 10, 11]),
+        (Call::Lift { first, second }, [9, 10, 11]),
+        (Call::Assign { seat, role }, [10, 6, 5]),
+        (Call::Unassign { seat, role }, [11, 6, 5]),
+        (Call::Ask { seat, privilege }, [12, 6, 7]),
+    ];
+    for (call, front) in kinds {
+        has_record(call, bytes(front, [0; 3]));
+    }
+}
+
+/// A call has this record, and the record is of this call.
+fn has_record(call: Call, record: Vec<u8>) {
+    assert_eq!(call.record()[..], record[..], "{call:?}");
+    assert_eq!(Call::of_record(&record), Some(call));
+    assert_eq!(call.kind(), record[0]);
+}
+
+/// A record is that of a call exactly when the keeper does not refuse it with 1.
+#[test]
+fn a_record_of_no_call_is_refused_with_1() {
+    let mut keeper = sample();
+    for kind in 0..=255 {
+        for place in 0..33 {
+            let mut record = bytes([kind, 5, 0], [0; 3]);
+            record.push(0);
+            record[place] ^= 2;
+            for length in [31, 32, 33] {
+                let given = &record[..length];
+                let refused = keeper.record(given) == Err(Refusal::Malformed);
+                assert_eq!(Call::of_record(given).is_none(), refused, "{given:?}");
+            }
+        }
+    }
+    assert_eq!(keeper.record(&[]), Err(Refusal::Malformed));
+    assert_eq!(Call::of_record(&[]), None);
+}
+
+#[test]
+fn the_sample_is_answered() {
+    let mut keeper = Keeper::fresh();
+    let answers = SAMPLE.map(|call| keeper.call(&call));
+    let accepted = Ok(Answer::Accepted);
+    let refused = Err(Refusal::RoleConflict { role: 2 });
+    assert_eq!(answers[..4], [accepted; 4]);
+    assert_eq!(answers[4..], [refused, Ok(Answer::Yes)]);
+    let other = Call::Ask {
+        seat: 4,
+        privilege: 1,
+    };
+    assert_eq!(keeper.call(&other), Ok(Answer::No));
+}
+
+// ---- refusals ----
+
+#[test]
+fn every_refusal_has_its_number_place_and_words() {
+    let mut words = Vec::new();
+    for number in (1..=9).chain(20..=30) {
+        let refusal = Refusal::of(number, 7);
+        let place = if matches!(number, 1 | 6..=9) { 0 } else { 7 };
+        assert_eq!(refusal.parts(), (number, place));
+        assert!(!matches!(refusal, Refusal::Other { .. }), "{number}");
+        let said = refusal.to_string();
+        assert_eq!(said.contains('7'), place == 7, "{said}");
+        assert!(!words.contains(&said), "{said}");
+        words.push(said);
+    }
+    assert_eq!(Refusal::of(31, 7).to_string(), "refused with 31, place 7");
+    assert_eq!(
+        Refusal::of_answer(256 * 29 + 2),
+        Refusal::RoleConflict { role: 2 }
+    );
+    assert_eq!(Refusal::of_answer(block::NO_STATE), Refusal::NoState);
+}
+
+#[test]
+fn a_refused_call_changes_nothing() {
+    let mut keeper = sample();
+    let twin = Call::AddByPrivileges {
+        role: 4,
+        effective: Set::of(&[0]),
+    };
+    let seated = Call::RemoveRole {
+        role: 3,
+        keep: true,
+    };
+    let end = Call::Assign { seat: 5, role: 1 };
+    let above = Call::Assign { seat: 64, role: 3 };
+    assert_eq!(keeper.call(&twin), Err(Refusal::EqualRoles { role: 2 }));
+    assert_eq!(keeper.call(&seated), Err(Refusal::RoleAssigned { seat: 5 }));
+    assert_eq!(keeper.call(&end), Err(Refusal::EndRole { role: 1 }));
+    assert_eq!(
+        keeper.call(&above),
+        Err(Refusal::UnknownNumber { number: 64 })
+    );
+    assert_eq!(keeper, sample());
+}
+
+// ---- asks ----
+
+#[test]
+fn asks_are_answered() {
+    let keeper = sample();
+    assert_eq!(keeper.ask(5, 1), Ok(true));
+    assert_eq!(keeper.ask(5, 2), Ok(false));
+    assert_eq!(keeper.ask(4, 1), Ok(false));
+    assert_eq!(
+        keeper.ask(64, 1),
+        Err(Refusal::UnknownNumber { number: 64 })
+    );
+    assert_eq!(
+        keeper.ask(5, 255),
+        Err(Refusal::UnknownNumber { number: 255 })
+    );
+    assert_eq!(keeper.count_yes(&[[5, 0], [5, 1], [5, 2], [64, 0]]), 2);
+}
+
+#[test]
+fn may_says_yes_where_the_ask_does_and_nowhere_else() {
+    let mut keeper = Keeper::fresh();
+    let every = Set(u64::MAX);
+    let all = Call::AddByPrivileges {
+        role: 2,
+        effective: every,
+    };
+    assert_eq!(keeper.call(&all), Ok(Answer::Accepted));
+    for seat in 0..64 {
+        let given = Call::Assign { seat, role: 2 };
+        assert_eq!(keeper.call(&given), Ok(Answer::Accepted));
+    }
+    let numbers = (0..400).chain([1 << 16, 1 << 24, 1 << 31, u32::MAX - 255, u32::MAX]);
+    for number in numbers {
+        assert_eq!(keeper.may(number, 0), number < 64);
+        assert_eq!(keeper.may(0, number), number < 64);
+    }
+}
+
+#[test]
+fn a_short_block_says_no() {
+    let words = [u64::MAX; WORDS];
+    assert!(block::may(&words, 0, 0));
+    for count in 0..WORDS {
+        assert!(!block::may(&words[..count], 0, 0));
+        assert_eq!(block::ask(&words[..count], 0, 0), block::NO_STATE);
+    }
+}
+
+// ---- images ----
+
+#[test]
+fn an_image_ends_the_bytes() {
+    let keeper = sample();
+    let image = keeper.save();
+    let bytes = [b"lens file", &image[..]].concat();
+    assert_eq!(image.len(), 45);
+    assert_eq!(image_length(&image), Ok(45));
+    assert_eq!(image_length(&bytes), Ok(45));
+    assert_eq!(Keeper::of_image(&bytes), Ok(keeper));
+}
+
+#[test]
+fn a_refused_image_keeps_the_state() {
+    let mut keeper = sample();
+    let image = keeper.save();
+    let changed = |place: usize, byte| {
+        let mut image = image.clone();
+        image[place] = byte;
+        image
+    };
+    let refused = [
+        (image[..44].to_vec(), Refusal::NoImage),
+        (changed(37, 46), Refusal::NoImage),
+        (changed(8, 1), Refusal::BadEntry),
+        (changed(9, 3), Refusal::BadContents),
+        (Vec::new(), Refusal::NoImage),
+    ];
+    for (bytes, refusal) in refused {
+        assert_eq!(keeper.load(&bytes), Err(refusal));
+        assert_eq!(Keeper::of_image(&bytes), Err(refusal));
+        assert_eq!(image_length(&bytes), Err(refusal));
+        assert_eq!(keeper, sample());
+    }
+}
+
+#[test]
+fn a_short_buffer_is_left_alone() {
+    let mut buffer = [0xA5; 50];
+    let keeper = sample();
+    assert_eq!(
+        keeper.save_into(&mut buffer[..44]),
+        Err(Refusal::ShortBuffer)
+    );
+    assert_eq!(buffer, [0xA5; 50]);
+    assert_eq!(keeper.save_into(&mut buffer), Ok(45));
+    assert_eq!(buffer[..45], keeper.save());
+    assert_eq!(buffer[45..], [0xA5; 5]);
+}
+
+// ---- what a keeper shows ----
+
+#[test]
+fn a_keeper_shows_its_roles() {
+    let keeper = sample();
+    assert_eq!(keeper.roles(), Set::of(&[2, 3]));
+    assert_eq!(keeper.edges(), [(0, 2), (2, 3), (3, 1)]);
+    assert_eq!(keeper.edge_count(), 3);
+    assert_eq!(keeper.effective(3), Set::of(&[0, 1]));
+    assert_eq!(keeper.direct(3), Set::of(&[1]));
+    assert_eq!(keeper.juniors(3), Set::of(&[2]));
+    assert_eq!(keeper.seniors(3), Set::of(&[1]));
+    assert!(keeper.is_below(2, 3) && !keeper.is_below(3, 2));
+    assert_eq!(keeper.conflicts(), [(0, 2)]);
+    assert!(keeper.is_declared(2, 0) && !keeper.is_declared(0, 1));
+    assert_eq!(keeper.seat_roles(5), Set::of(&[3]));
+    assert_eq!(keeper.seat_holds(5), Set::of(&[0, 1]));
+    assert_eq!(keeper.words()[0], 0b1100);
+    assert_eq!(Keeper::default(), Keeper::fresh());
+}
+
+#[test]
+fn a_set_prints_its_members() {
+    let printed = |members: &[u8]| Set::of(members).to_string();
+    assert_eq!(printed(&[]), "{}");
+    assert_eq!(printed(&[5]), "{5}");
+    assert_eq!(printed(&[0, 1, 3]), "{0,1,3}");
+    assert_eq!(printed(&[1, 2, 3, 4, 11, 62, 63]), "{1..4,11,62,63}");
+    assert_eq!(Set(u64::MAX).to_string(), "{0..63}");
+    assert_eq!(Set(u64::MAX).count(), 64);
+    assert!(!Set(u64::MAX).has(64) && Set::EMPTY.is_empty());
+}
+
+#[test]
+#[should_panic(expected = "0 to 63")]
+fn a_set_has_no_member_64() {
+    Set::of(&[64]);
+}
