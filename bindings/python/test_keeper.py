@@ -1,0 +1,218 @@
+#!/usr/bin/env python3
+"""Tests of the Python binding: python3 bindings/python/test_keeper.py"""
+import ctypes
+import os
+import pickle
+import re
+import subprocess
+import sys
+import tempfile
+import unittest
+from pathlib import Path
+
+sys.dont_write_bytecode = True
+OWN = Path(__file__).resolve().parent
+sys.path.insert(0, str(OWN))
+
+import keeper
+from keeper import Keeper, Refused, image_length
+
+# The saved sample of document 01.
+SAVED = bytes.fromhex('03 00 00 00 00 00 00 00  02 01 00 00 00 00 00 00 00  03 03 00 00 00 00 00 00 00  00 02'
+                      '05 08 00 00 00 00 00 00 00  2D 00 00 00 02 01 01 00')
+
+
+def sample():
+    """The state of document 01's sample tape."""
+    got = Keeper()
+    got.add_by_privileges(role=2, effective={0})
+    got.add_by_privileges(role=3, effective={0, 1})
+    got.declare(0, 2)
+    got.assign(seat=5, role=3)
+    return got
+
+
+class Test(unittest.TestCase):
+    def refuses(self, number, place, call, *words, **names):
+        """The call is refused so, and the state stays."""
+        with self.assertRaises(Refused) as caught:
+            call(*words, **names)
+        self.assertEqual((caught.exception.number, caught.exception.place), (number, place))
+        return caught.exception
+
+
+class Calls(Test):
+    def test_the_sample(self):
+        got = sample()
+        self.refuses(29, 2, got.grant, privilege=2, role=2)
+        self.assertIs(got.ask(5, 1), True)
+        self.assertIs(got.record(bytes([12, 5, 1]) + bytes(29)), True)
+        self.assertIs(got.record(bytes([12, 5, 2]) + bytes(29)), False)
+        self.assertIs(got.record(bytes([4, 3, 9]) + bytes(29)), None)
+        self.assertEqual(sample().save(), SAVED)
+
+    def test_every_kind(self):
+        got = sample()
+        got.add_by_place(role=4, direct=[7], juniors={2}, seniors={3})
+        self.assertEqual(got.effective(3), {0, 1, 7})
+        got.grant(privilege=8, role=4)
+        got.withdraw(privilege=7, role=4)
+        got.remove_edge(junior=4, senior=3)
+        self.assertEqual(got.effective(3), {0, 1})
+        got.add_edge(junior=4, senior=3)
+        self.assertEqual(got.effective(3), {0, 1, 8})
+        got.remove_role(role=4, keep=True)
+        self.assertEqual(got.direct(3), {1, 8})
+        got.withdraw(privilege=8, role=3)
+        got.lift(2, 0)
+        got.unassign(seat=5, role=3)
+        self.assertEqual(got.conflicts(), [])
+        self.assertEqual(got.seat_roles(5), set())
+        got.remove_role(role=3)
+        got.remove_role(role=2)
+        self.assertEqual(got.save(), Keeper().save())
+
+    def test_refusals(self):
+        got = sample()
+        self.refuses(1, 0, got.record, b'')
+        self.refuses(1, 0, got.record, bytes(31))
+        self.refuses(2, 64, got.assign, seat=64, role=3)
+        self.refuses(3, 1, got.grant, privilege=3, role=1)
+        self.refuses(4, 9, got.declare, 9, 9)
+        self.refuses(5, 2, got.add_edge, junior=2, senior=2)
+        self.refuses(20, 2, got.add_by_privileges, role=2, effective={5})
+        self.refuses(21, 9, got.assign, seat=5, role=9)
+        self.refuses(22, 5, got.assign, seat=5, role=3)
+        self.refuses(23, 4, got.unassign, seat=4, role=3)
+        self.refuses(24, 5, got.remove_role, role=3)
+        self.refuses(25, 3, got.add_edge, junior=3, senior=2)
+        self.refuses(27, 9, got.add_by_place, role=9)
+        said = self.refuses(28, 2, got.add_by_privileges, role=9, effective={0})
+        self.assertEqual(str(said), 'refused with 28, place 2: role 2 would hold what another role holds')
+        self.assertEqual(said.text, 'role 2 would hold what another role holds')
+        self.assertEqual(str(pickle.loads(pickle.dumps(said))), str(said))
+        self.assertEqual(got.save(), SAVED)
+
+    def test_the_texts_are_those_of_the_rust_wrapper(self):
+        source = (OWN.parent / 'rust/src/refusal.rs').read_text()
+        rust = re.findall(r'\(\s*(\d+),\s*"([^"]*)",?\s*\)', source)
+        self.assertEqual({int(number): text for number, text in rust}, keeper._TEXTS)
+
+
+class WrongUses(Test):
+    """Nothing but a number from 0 to 63 and a whole block ever gives a yes."""
+
+    def setUp(self):
+        self.all = Keeper()
+        self.all.add_by_privileges(role=2, effective=range(64))
+        for seat in range(64):
+            self.all.assign(seat=seat, role=2)
+
+    def test_numbers(self):
+        self.assertIs(self.all.may(63, 63), True)
+        for number in [64, 255, 256, 320, 2 ** 16, 2 ** 32, 2 ** 32 + 5, 2 ** 64, 2 ** 64 + 5, -1, -251, -2 ** 32]:
+            with self.subTest(number):
+                self.assertIs(self.all.may(number, 0), False)
+                self.assertIs(self.all.may(0, number), False)
+                self.refuses(2, number, self.all.ask, number, 0)
+                self.refuses(2, number, self.all.ask, 0, number)
+                self.refuses(2, number, self.all.assign, seat=number, role=2)
+                if not 0 <= number <= 255:
+                    self.refuses(2, number, self.all.count_yes, [(number, 0)])
+                    self.refuses(2, number, self.all.seat_holds, number)
+                self.refuses(2, number, self.all.add_by_privileges, role=3, effective={number})
+        self.assertEqual(self.all.count_yes([(0, 0), (64, 0), (0, 255), (63, 63)]), 2)
+
+    def test_what_is_no_number(self):
+        for word in ['5', 5.0, None, b'5', (5,)]:
+            with self.subTest(word):
+                self.assertRaises(TypeError, self.all.may, word, 0)
+                self.assertRaises(TypeError, self.all.ask, word, 0)
+                self.assertRaises(TypeError, self.all.assign, seat=word, role=2)
+
+    def test_a_short_block(self):
+        library = keeper._library
+        words = (ctypes.c_uint64 * keeper.WORDS)(*[2 ** 64 - 1] * keeper.WORDS)
+        self.assertIs(library.keeper_may(words, keeper.WORDS, 0, 0), True)
+        for count in range(keeper.WORDS):
+            self.assertIs(library.keeper_may(words, count, 0, 0), False)
+            self.assertEqual(library.keeper_ask(words, count, 0, 0), keeper.NO_STATE)
+
+    def test_numbers_are_not_crossed(self):
+        with self.assertRaises(TypeError):
+            self.all.grant(1, 2)
+
+
+class Images(Test):
+    def test_behind_other_bytes(self):
+        for front in [b'', b'lens file', SAVED]:
+            self.assertEqual(Keeper(front + SAVED).save(), SAVED)
+            self.assertEqual(image_length(front + SAVED), 45)
+        self.assertEqual(image_length(bytearray(SAVED)), 45)
+
+    def test_refused(self):
+        got = sample()
+        for number, image in [(6, b''), (6, SAVED[1:]), (7, SAVED[:8] + b'\1' + SAVED[9:]), (8, b'\1' + SAVED[1:])]:
+            self.refuses(number, 0, got.load, image)
+            self.refuses(number, 0, Keeper, image)
+            self.refuses(number, 0, image_length, image)
+        self.assertEqual(got.save(), SAVED)
+
+    def test_a_buffer(self):
+        buffer = bytearray(b'\xa5' * 50)
+        self.refuses(9, 0, sample().save_into, memoryview(buffer)[:44])
+        self.assertEqual(buffer, b'\xa5' * 50)
+        self.assertEqual(sample().save_into(buffer), 45)
+        self.assertEqual(buffer, SAVED + b'\xa5' * 5)
+
+
+class Shown(Test):
+    def test_what_a_keeper_shows(self):
+        got = sample()
+        self.assertEqual(got.roles(), {2, 3})
+        self.assertEqual(got.edges(), [(0, 2), (2, 3), (3, 1)])
+        self.assertEqual(got.edge_count(), 3)
+        self.assertEqual(got.effective(3), {0, 1})
+        self.assertEqual(got.direct(3), {1})
+        self.assertEqual(got.juniors(3), {2})
+        self.assertEqual(got.seniors(3), {1})
+        self.assertTrue(got.is_below(2, 3) and not got.is_below(3, 2))
+        self.assertTrue(got.is_declared(2, 0) and not got.is_declared(0, 1))
+        self.assertEqual(got.conflicts(), [(0, 2)])
+        self.assertEqual(got.seat_roles(5), {3})
+        self.assertEqual(got.seat_holds(5), {0, 1})
+
+    def test_the_header_is_declared(self):
+        """The header's functions have here the types that it gives them."""
+        names = {'uint8_t': keeper._U8, 'uint32_t': keeper._U32, 'uint64_t': keeper._U64, 'size_t': ctypes.c_size_t,
+                 'bool': keeper._BOOL}
+        pointers = {'uint64_t': keeper._BLOCK, 'uint8_t': keeper._BYTES}
+
+        def of_c(text):
+            of = text.replace('const ', '').split()[0]
+            return pointers[of] if '*' in text else names[of]
+
+        header = (OWN.parent.parent / 'include/keeper.h').read_text()
+        found = re.findall(r'^KEEPER_HEED (\w+) (keeper_\w+)\(([^)]*)\);', header, re.M)
+        for result, name, parameters in found:
+            function = getattr(keeper._library, name)
+            self.assertEqual(function.restype, names[result], name)
+            self.assertEqual(list(function.argtypes), [of_c(part.strip()) for part in parameters.split(',')], name)
+        self.assertEqual({name for _, name, _ in found}, {*keeper._FUNCTIONS, 'keeper_image_length'})
+        values = dict(re.findall(r'^#define KEEPER_(\w+) (\d+)$', header, re.M))
+        for name in ['WORDS', 'LONGEST_IMAGE', 'NO_STATE', 'NOT_SAVED']:
+            self.assertEqual(getattr(keeper, name), int(values[name]))
+        refusals = re.search(r'enum keeper_refusal \{(.*?)\};', header, re.S)[1]
+        self.assertEqual([int(n) for n in re.findall(r' = (\d+)', refusals)], list(keeper._TEXTS))
+
+    def test_a_missing_library_says_what_to_run(self):
+        with tempfile.TemporaryDirectory() as folder:
+            environment = {**os.environ, 'KEEPER_LIBRARY': folder, 'PYTHONDONTWRITEBYTECODE': '1'}
+            got = subprocess.run([sys.executable, '-c', 'import keeper'], cwd=OWN, env=environment,
+                                 capture_output=True, text=True)
+        self.assertIn('run `make`', got.stderr)
+        self.assertNotEqual(got.returncode, 0)
+
+
+if __name__ == '__main__':
+    unittest.main()
