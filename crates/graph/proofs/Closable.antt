@@ -15,7 +15,7 @@ use Rattle.sets.proofs.Tests.{join, either, fails, decide, test-equal}
 use Rattle.sets.proofs.Laws.{member-union, member-lt, union-lt, difference-lt}
 use Rattle.sets.proofs.Members.{union-left, union-right, single-in, no-members}
 use Rattle.graph.specs.Tables.{at, table}
-use Rattle.graph.specs.Graph.{role-count, max-role, is-end, ordinary}
+use Rattle.graph.specs.Graph.{role-count, max-role, is-end, ordinary, max-alone, end-roles}
 use Rattle.graph.specs.Drawing.{Drawing}
 use Rattle.graph.specs.Closing.{counts, gathered, close}
 use Rattle.graph.specs.Reading.{drawn-from}
@@ -30,7 +30,7 @@ use Rattle.graph.proofs.DrawingCode.{ordinary-member}
 module _ {d : Drawing} {roles : ℕ} (b : roles < 2 ^ role-count) {D J : List ℕ} (h : Holds d roles D J) where
   -- The ordinary roles.
   abbrev own : ℕ
-  own = difference roles 3
+  own = difference roles end-roles
 
   own-member : (t : ℕ) → member t own ≡ not (is-end t) && member t (d .roles)
   unfolding ordinary
@@ -41,7 +41,7 @@ module _ {d : Drawing} {roles : ℕ} (b : roles < 2 ^ role-count) {D J : List �
   K = set J max-role (union (at J max-role) own)
 
   K-table : Table role-count role-count K
-  K-table = set-table (h .table) max-role 0 (omega arith) _ (union-lt role-count _ _ (h .table .entry-lt max-role) (difference-lt role-count roles 3 b))
+  K-table = set-table (h .table) max-role 0 (omega arith) _ (union-lt role-count _ _ (h .table .entry-lt max-role) (difference-lt role-count roles end-roles b))
 
   -- They are the counted juniors.
   counted-at : (t r : ℕ) → t < role-count → r < role-count → member t (at K r) ≡ counts d t r
@@ -60,7 +60,7 @@ module _ {d : Drawing} {roles : ℕ} (b : roles < 2 ^ role-count) {D J : List �
       (λ r l. at-table role-count r _ l ∙ gathered-cong (at D) (d .directs) (λ t r. member t (at K r)) (counts d) (h .same-directs) counted-at role-count r l ∙ sym (closed-at d r l))
 
   -- A role with juniors is ordinary or MaxRole.
-  senior : (t r : ℕ) → T (counts d t r) → T (member r (union own 2))
+  senior : (t r : ℕ) → T (counts d t r) → T (member r (union own max-alone))
   unfolding single
   senior t r u =
       elim (counted d t r u) [
@@ -68,19 +68,19 @@ module _ {d : Drawing} {roles : ℕ} (b : roles < 2 ^ role-count) {D J : List �
         | of-top e _ _ ↦ top e
       ]
     where
-      top : r ≡ max-role → T (member r (union own 2))
-      top e = union-right r own 2 (subst (λ (i : ℕ). T (member i 2)) (sym e) (single-in 1))
+      top : r ≡ max-role → T (member r (union own max-alone))
+      top e = union-right r own max-alone (subst (λ (i : ℕ). T (member i max-alone)) (sym e) (single-in 1))
 
-      role : T (has-role (d .roles) r) → 1 ≤ r → T (member r (union own 2))
+      role : T (has-role (d .roles) r) → 1 ≤ r → T (member r (union own max-alone))
       role p q =
           elim (decide (is-end r)) [
             | inl x ↦ top (let l = is-end-lt r x in omega arith)
-            | inr x ↦ union-left r own 2 (subst T (sym (own-member r))
+            | inr x ↦ union-left r own max-alone (subst T (sym (own-member r))
                 (join (not (is-end r)) (member r (d .roles)) (not-T (is-end r) x) (elim (either (is-end r) (member r (d .roles)) p) [ inl y ↦ absurd (x y) | inr y ↦ y ])))
           ]
 
   -- Going down these tables ends.
-  pub closable : Acyclic (union own 2) K
+  pub closable : Acyclic (union own max-alone) K
   closable = record {
     ending = record {
       height = counted-height d (h .no-circle);

@@ -15,31 +15,31 @@ use Rattle.sets.proofs.Laws.{binary, member-lt, member-single, member-union, me
 use Rattle.sets.proofs.Members.{in-empty, in-difference, difference-in, in-gather, gather-in, no-members}
 use Rattle.order.specs.Paths.{drawn}
 use Rattle.graph.specs.Tables.{at, table}
-use Rattle.graph.specs.Graph.{Graph, role-count, min-role, max-role, is-end, ordinary, present, effective}
+use Rattle.graph.specs.Graph.{Graph, role-count, min-role, max-role, is-end, ordinary, present, effective, min-alone, max-alone, end-roles}
 use Rattle.graph.specs.Drawing.{below, edge, juniors, seniors, edge-count, direct, roles-below}
 use Rattle.graph.specs.Working.{less-juniors}
 use Rattle.graph.proofs.Tables.{length-table, at-table, table-ext}
 use Rattle.graph.proofs.Order.{Under, from-min, to-max, inside, is-end-lt, lt-is-end, ordinary-parts, present-cases, ordinary-present, end-present, ordinary-lt, present-lt, below-cases, below-join, min-below, above-min, not-above-max, edge-below, path-iff-below, none-between, below-junior, path-iff-included}
 
 -- ---- the order by a few tests
--- The set 3 has the numbers of the end roles.
-pub member-ends : (n : ℕ) → member n 3 ≡ is-end n
+-- The members of the set of end roles.
+pub member-ends : (n : ℕ) → member n end-roles ≡ is-end n
 unfolding member digit
 member-ends n =
-    same-test (member n 3) (is-end n) (λ m. lt-is-end n (member-lt 2 n 3 (omega arith) m))
-    (λ t. binary (λ i. T (member i 3)) tt tt n (is-end-lt n t))
+    same-test (member n end-roles) (is-end n) (λ m. lt-is-end n (member-lt 2 n end-roles (omega arith) m))
+    (λ t. binary (λ i. T (member i end-roles)) tt tt n (is-end-lt n t))
 
-pub ordinary-member : (g : Graph) (n : ℕ) → member n (difference (g .roles) 3) ≡ ordinary g n
+pub ordinary-member : (g : Graph) (n : ℕ) → member n (difference (g .roles) end-roles) ≡ ordinary g n
 unfolding ordinary
 ordinary-member g n =
-    member-difference n (g .roles) 3 ∙ ap (λ (b : Bool). member n (g .roles) && not b) (member-ends n) ∙ and-comm (member n (g .roles)) (not (is-end n))
+    member-difference n (g .roles) end-roles ∙ ap (λ (b : Bool). member n (g .roles) && not b) (member-ends n) ∙ and-comm (member n (g .roles)) (not (is-end n))
 
 -- The ordinary roles with the end role z.
-pub member-with : (g : Graph) (z n : ℕ) → member n (union (difference (g .roles) 3) (single z)) ≡ ordinary g n || eqb n z
-member-with g z n = member-union n (difference (g .roles) 3) (single z) ∙ ap₂ _||_ (ordinary-member g n) (member-single n z)
+pub member-with : (g : Graph) (z n : ℕ) → member n (union (difference (g .roles) end-roles) (single z)) ≡ ordinary g n || eqb n z
+member-with g z n = member-union n (difference (g .roles) end-roles) (single z) ∙ ap₂ _||_ (ordinary-member g n) (member-single n z)
 
 -- What a test of the code for an ordinary role says.
-module _ (g : Graph) (n : ℕ) {all : ℕ} {b : Bool} (t : b ≡ member n all) (e : all ≡ difference (g .roles) 3) where
+module _ (g : Graph) (n : ℕ) {all : ℕ} {b : Bool} (t : b ≡ member n all) (e : all ≡ difference (g .roles) end-roles) where
   pub found-ordinary : b ≡ true → T (ordinary g n)
   found-ordinary y = subst T (sym y ∙ t ∙ ap (member n) e ∙ ordinary-member g n) tt
 
@@ -113,7 +113,7 @@ below-tests g r s =
 
 -- The three tests as the code makes them.
 pub below-code : (g : Graph) (r s : ℕ) {high low strict : Bool}
-    → high ≡ member s (union (difference (g .roles) 3) 2) → low ≡ member r (union (difference (g .roles) 3) 1) → strict ≡ strictly-included (effective g r) (effective g s)
+    → high ≡ member s (union (difference (g .roles) end-roles) max-alone) → low ≡ member r (union (difference (g .roles) end-roles) min-alone) → strict ≡ strictly-included (effective g r) (effective g s)
     → high && (low && (eqb s max-role || (eqb r min-role || strict))) ≡ below g r s
 unfolding single
 below-code g r s a b c = rw (a ∙ member-with g max-role s, b ∙ member-with g min-role r, c, below-tests)
@@ -133,12 +133,12 @@ module _ (g : Graph) (h : g .roles < 2 ^ role-count) where
   pub below-member : (r s : ℕ) → member r (roles-below g s) ≡ below g r s
   below-member r s = member-collect r role-count (λ r. below g r s) ∙ bounded r role-count (below g r s) (λ t. present-lt g r h (below-cases g r s t .0))
 
-  pub below-top : union (difference (g .roles) 3) 1 ≡ roles-below g max-role
+  pub below-top : union (difference (g .roles) end-roles) min-alone ≡ roles-below g max-role
   unfolding single
   below-top = equal-members _ _ (λ n. member-with g min-role n ∙ sym (below-member n max-role ∙ below-tests g n max-role ∙ rw (or-true, and-true)))
 
   pub below-ordinary : (s : ℕ) → T (ordinary g s)
-      → union (collect role-count (λ r. member r (difference (g .roles) 3) && strictly-included (effective g r) (effective g s))) 1 ≡ roles-below g s
+      → union (collect role-count (λ r. member r (difference (g .roles) end-roles) && strictly-included (effective g r) (effective g s))) min-alone ≡ roles-below g s
   unfolding single
   below-ordinary s o =
       equal-members _ _
@@ -152,7 +152,7 @@ module _ (g : Graph) (h : g .roles < 2 ^ role-count) where
       strict r = strictly-included (effective g r) (effective g s)
 
       within : ℕ → Bool
-      within r = member r (difference (g .roles) 3) && strict r
+      within r = member r (difference (g .roles) end-roles) && strict r
 
       within-member : (n : ℕ) → member n (collect role-count within) ≡ ordinary g n && strict n
       within-member n =
@@ -223,7 +223,7 @@ between-ordinary g r t s x y = low-ordinary g t s (λ e. omega (arith, above-min
 
 -- A search for a role between two others may look among the ordinary roles only.
 pub between-tests : (g : Graph) (r s : ℕ)
-    → any role-count (λ t. member t (difference (g .roles) 3) && (below g r t && below g t s)) ≡ any role-count (λ t. below g r t && below g t s)
+    → any role-count (λ t. member t (difference (g .roles) end-roles) && (below g r t && below g t s)) ≡ any role-count (λ t. below g r t && below g t s)
 between-tests g r s =
     any-cong role-count _ _
     (λ t _.
@@ -304,7 +304,7 @@ chosen false x y z p q = q (λ t. t)
 abbrev pub Covers : Graph → ℕ → Type 0
 Covers g all = (s : ℕ) → T (ordinary g s) ⊎ (s ≡ max-role) → T (member s all)
 
-pub seniors-cover : (g : Graph) → Covers g (union (difference (g .roles) 3) 2)
+pub seniors-cover : (g : Graph) → Covers g (union (difference (g .roles) end-roles) max-alone)
 unfolding single
 seniors-cover g s (inl o) = subst T (sym (member-with g max-role s)) (or-left (ordinary g s) (eqb s max-role) o)
 seniors-cover g s (inr e) = subst T (sym (member-with g max-role s)) (or-right (ordinary g s) (eqb s max-role) (equal-test e))

@@ -14,7 +14,7 @@ use Rattle.sets.specs.Sets.{member, single, union, difference, when, collect}
 use Rattle.sets.proofs.Tests.{both, join, same-test, passes, fails, test-equal}
 use Rattle.sets.proofs.Laws.{member-union, member-difference, member-single, member-when, member-collect, member-empty, equal-members, union-empty, union-lt, difference-empty, difference-lt, single-lt, when-lt, collect-lt}
 use Rattle.graph.specs.Tables.{at, table}
-use Rattle.graph.specs.Graph.{Graph, role-count, privilege-count}
+use Rattle.graph.specs.Graph.{Graph, role-count, privilege-count, max-alone, end-roles}
 use Rattle.graph.specs.Drawing.{edge, juniors, direct, redraw}
 use Rattle.graph.specs.Editing.{Change, add-by-place, add-by-privileges, remove-role, grant, withdraw, add-edge, remove-edge, for-role, edit}
 use Rattle.graph.specs.Refusing.{passed, early, input-checks, state-checks}
@@ -95,7 +95,7 @@ taken-all l into out e = e ∙ simp (none-when, union-empty)
 -- ---- the drawn graph
 module _ (g : Graph) (h : g .roles < 2 ^ role-count) where
   -- What drawing gives holds the drawn graph.
-  pub drawn-holds : {P : ℕ} {D J : List ℕ} → P ≡ union (difference (g .roles) 3) 2 → J ≡ table role-count (juniors g) → D ≡ less-juniors P (g .sets) J → Holds (redraw g) (g .roles) D J
+  pub drawn-holds : {P : ℕ} {D J : List ℕ} → P ≡ union (difference (g .roles) end-roles) max-alone → J ≡ table role-count (juniors g) → D ≡ less-juniors P (g .sets) J → Holds (redraw g) (g .roles) D J
   unfolding redraw juniors
   drawn-holds {P} {D} {J} p j d =
       let (whole, own) = entries (direct g) (d ∙ ap₂ (λ (x : ℕ) (y : List ℕ). less-juniors x (g .sets) y) p j ∙ directs-table g h _ (seniors-cover g)) in
@@ -112,7 +112,7 @@ module _ (g : Graph) (h : g .roles < 2 ^ role-count) where
       }
 
   -- A drawn edge leads to an ordinary role or MaxRole.
-  to-senior : (t r : ℕ) → T (edge g t r) → T (member r (union (difference (g .roles) 3) 2))
+  to-senior : (t r : ℕ) → T (edge g t r) → T (member r (union (difference (g .roles) end-roles) max-alone))
   to-senior t r d =
       let b = edge-below g t r d in
       let l = above-min g t r b in
@@ -182,14 +182,14 @@ module _ (g : Graph) {R : ℕ} (b : R < 2 ^ role-count) {D J : List ℕ} (h : Ho
         (n, λ r k. f r k ∙ rw (h .same-directs r k, known-member ka one r, q))
 
     -- The roles with an edge from a, as the code finds them.
-    seniors-found : {P over : ℕ} → P ≡ union (difference R 3) 2 → over ≡ collect role-count (λ r. member r P && member a (at J r)) → (r : ℕ) → r < role-count → member r over ≡ edge g a r
+    seniors-found : {P over : ℕ} → P ≡ union (difference R end-roles) max-alone → over ≡ collect role-count (λ r. member r P && member a (at J r)) → (r : ℕ) → r < role-count → member r over ≡ edge g a r
     unfolding redraw
     seniors-found {P} p e r l =
         ap (member r) e
         ∙ member-collect r role-count (λ r. member r P && member a (at J r))
         ∙ rw (passes (ltb r role-count) (lt→ltb r role-count l), h .same-joins a r ka l, p)
-        (same-test (member r (union (difference R 3) 2) && edge g a r) (edge g a r) (λ t. both (member r (union (difference R 3) 2)) (edge g a r) t .1)
-        (λ t. join (member r (union (difference R 3) 2)) (edge g a r) (subst (λ (x : ℕ). T (member r (union (difference x 3) 2))) (sym (h .same-roles)) (to-senior g roles-lt a r t)) t))
+        (same-test (member r (union (difference R end-roles) max-alone) && edge g a r) (edge g a r) (λ t. both (member r (union (difference R end-roles) max-alone)) (edge g a r) t .1)
+        (λ t. join (member r (union (difference R end-roles) max-alone)) (edge g a r) (subst (λ (x : ℕ). T (member r (union (difference x end-roles) max-alone))) (sym (h .same-roles)) (to-senior g roles-lt a r t)) t))
 
   -- Kind 4.
   pub grant-holds : (a p : ℕ) → early g (grant a p) ≡ passed → {role s : ℕ} {E : List ℕ} → role ≡ when (ltb a role-count) (single a) → s ≡ when (ltb p privilege-count) (single p)
@@ -244,7 +244,7 @@ module _ (g : Graph) {R : ℕ} (b : R < 2 ^ role-count) {D J : List ℕ} (h : Ho
   -- Kind 7.
   pub remove-edge-holds : (a b : ℕ) → early g (remove-edge a b) ≡ passed → {junior senior under P over : ℕ} {K L : List ℕ}
       → junior ≡ when (ltb a role-count) (single a) → senior ≡ when (ltb b role-count) (single b)
-      → under ≡ at J a → P ≡ union (difference R 3) 2 → over ≡ collect role-count (λ r. member r P && member b (at J r))
+      → under ≡ at J a → P ≡ union (difference R end-roles) max-alone → over ≡ collect role-count (λ r. member r P && member b (at J r))
       → K ≡ exchanged J senior junior under → L ≡ exchanged K over 0 junior → Holds (edit (remove-edge a b) (redraw g)) R D L
   unfolding edit redraw Fits input-checks Passes
   remove-edge-holds a b e {junior} {senior} {under} {P} {over} {K} one two u p o n q =
@@ -259,7 +259,7 @@ module _ (g : Graph) {R : ℕ} (b : R < 2 ^ role-count) {D J : List ℕ} (h : Ho
 
   -- Kind 3.
   pub remove-role-holds : (a b : ℕ) → early g (remove-role a b) ≡ passed → {S role P over own handed under : ℕ} {E F K L : List ℕ} → role ≡ when (ltb a role-count) (single a)
-      → P ≡ union (difference R 3) 2 → over ≡ collect role-count (λ r. member r P && member a (at J r)) → own ≡ at D a → handed ≡ when (eqb b 1) own
+      → P ≡ union (difference R end-roles) max-alone → over ≡ collect role-count (λ r. member r P && member a (at J r)) → own ≡ at D a → handed ≡ when (eqb b 1) own
       → E ≡ table role-count (λ r. union (at D r) (when (member r over) handed)) → F ≡ table role-count (λ r. difference (at E r) (when (member r role) own))
       → under ≡ at J a → K ≡ exchanged J over role under → L ≡ exchanged K role under 0 → S ≡ difference R role → Holds (edit (remove-role a b) (redraw g)) S F L
   unfolding edit redraw Fits input-checks Passes

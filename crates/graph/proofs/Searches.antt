@@ -18,7 +18,7 @@ use Rattle.sets.proofs.Members.{in-intersection, intersection-in, in-empty, no-
 use Rattle.sets.proofs.Walks.{Searched, search-none, search-next, search-found, search-done, visited, visited-none, visited-next, member-next, lowest-in, lowest-below, lowest-of}
 use Rattle.sets.proofs.Walks as Walks
 use Rattle.graph.specs.Tables.{at}
-use Rattle.graph.specs.Graph.{Graph, role-count, min-role, max-role, ordinary, effective}
+use Rattle.graph.specs.Graph.{Graph, role-count, min-role, max-role, ordinary, effective, min-alone, max-alone, end-roles}
 use Rattle.graph.specs.Conflicts.{conflict}
 use Rattle.graph.specs.Drawing.{below}
 use Rattle.graph.specs.Refusing.{at-or-below}
@@ -192,17 +192,17 @@ module _ {w : ℕ} {f : ℕ → Bool} {all rest : ℕ} (s : Search w f all rest)
 
 -- ---- ordinary roles
 -- A search among the ordinary roles starts with all of them.
-pub starts-ordinary : {f : ℕ → Bool} {roles all : ℕ} → roles < 2 ^ role-count → all ≡ difference roles 3 → Search role-count f (difference roles 3) all
-starts-ordinary {f} {roles} h e = rw e (starts role-count f (difference roles 3) (difference-lt role-count roles 3 h))
+pub starts-ordinary : {f : ℕ → Bool} {roles all : ℕ} → roles < 2 ^ role-count → all ≡ difference roles end-roles → Search role-count f (difference roles end-roles) all
+starts-ordinary {f} {roles} h e = rw e (starts role-count f (difference roles end-roles) (difference-lt role-count roles end-roles h))
 
 module _ (g : Graph) (f : ℕ → Bool) where
-  passes-ordinary : (n : ℕ) → member n (difference (g .roles) 3) && f n ≡ ordinary g n && f n
+  passes-ordinary : (n : ℕ) → member n (difference (g .roles) end-roles) && f n ≡ ordinary g n && f n
   passes-ordinary n = ap (λ (b : Bool). b && f n) (ordinary-member g n)
 
-  pub among-ordinary : first role-count (λ n. member n (difference (g .roles) 3) && f n) ≡ first role-count (λ n. ordinary g n && f n)
+  pub among-ordinary : first role-count (λ n. member n (difference (g .roles) end-roles) && f n) ≡ first role-count (λ n. ordinary g n && f n)
   among-ordinary = first-cong role-count _ _ (λ n _. passes-ordinary n)
 
-  pub any-ordinary : any role-count (λ n. member n (difference (g .roles) 3) && f n) ≡ any role-count (λ n. ordinary g n && f n)
+  pub any-ordinary : any role-count (λ n. member n (difference (g .roles) end-roles) && f n) ≡ any role-count (λ n. ordinary g n && f n)
   any-ordinary = any-cong role-count _ _ (λ n _. passes-ordinary n)
 
 -- ---- twins
@@ -221,9 +221,9 @@ module _ (g : Graph) where
       (join (ordinary g s && not (eqb r s)) (eqb (effective g r) (effective g s)) (join (ordinary g s) (not (eqb r s)) o (not-T (eqb r s) (λ t. d (test-equal t)))) (equal-test e))
 
   -- Where no role before r has a twin, r has one only among those left after it.
-  module _ {rest : ℕ} (s : Search role-count (has-twin g) (difference (g .roles) 3) rest) (some : rest ≢ 0) {r : ℕ} (e : r ≡ lowest-member role-count rest)
+  module _ {rest : ℕ} (s : Search role-count (has-twin g) (difference (g .roles) end-roles) rest) (some : rest ≢ 0) {r : ℕ} (e : r ≡ lowest-member role-count rest)
       {next : ℕ} (d : next ≡ without-lowest role-count rest) where
-    ordinary-in : (n : ℕ) → T (member n (difference (g .roles) 3)) → T (ordinary g n)
+    ordinary-in : (n : ℕ) → T (member n (difference (g .roles) end-roles)) → T (ordinary g n)
     ordinary-in n m = subst T (ordinary-member g n) m
 
     pub twin-test : has-equal g next r ≡ has-twin g r
@@ -290,10 +290,10 @@ module _ (g : Graph) (all j : ℕ) where
 
   -- j can lie above others.
   abbrev pub high : Bool
-  high = member j (union (difference (g .roles) 3) 2)
+  high = member j (union (difference (g .roles) end-roles) max-alone)
 
   abbrev low : ℕ → Bool
-  low s = member s (union (difference (g .roles) 3) 1)
+  low s = member s (union (difference (g .roles) end-roles) min-alone)
 
   tested : (s : ℕ) → below g s j ≡ high && (low s && ways-below s)
   unfolding single
@@ -308,11 +308,11 @@ module _ (g : Graph) (all j : ℕ) where
       let (m, b) = both (member s all) (below g s j) x in
       subst T (tested s ∙ ap (λ (a : Bool). a && (low s && ways-below s)) e) b))
 
-  pub found-below : high ≡ true → any role-count (λ s. member s (intersection all (union (difference (g .roles) 3) 1)) && ways-below s) ≡ some-below g all j
+  pub found-below : high ≡ true → any role-count (λ s. member s (intersection all (union (difference (g .roles) end-roles) min-alone)) && ways-below s) ≡ some-below g all j
   found-below e =
       any-cong role-count _ _
       (λ s _.
-      ap (λ (a : Bool). a && ways-below s) (member-intersection s all (union (difference (g .roles) 3) 1))
+      ap (λ (a : Bool). a && ways-below s) (member-intersection s all (union (difference (g .roles) end-roles) min-alone))
       ∙ sym (and-regroup (member s all) (low s) (ways-below s))
       ∙ ap (λ (b : Bool). member s all && b) (sym (tested s ∙ ap (λ (a : Bool). a && (low s && ways-below s)) e)))
 

@@ -27,6 +27,18 @@ max-role = 1
 unfoldable pub is-end : ℕ → Bool
 is-end r = ltb r 2
 
+-- MinRole alone, as a set of roles.
+abbrev pub min-alone : ℕ
+min-alone = 1
+
+-- MaxRole alone, as a set of roles.
+abbrev pub max-alone : ℕ
+max-alone = 2
+
+-- The two end roles, as a set of roles.
+abbrev pub end-roles : ℕ
+end-roles = 3
+
 -- A role graph is given by its ordinary roles, the effective set of each role, and the declared conflicts; order, edges and direct privileges follow from these.
 pub record Graph : Type 0 where
   -- the ordinary roles present, as a set

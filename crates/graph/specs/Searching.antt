@@ -1,4 +1,4 @@
--- What a search among numbers finds.
+-- Document 01, places of refusals, "lowest such": what a search among numbers finds.
 use mathlib.Core.Bool.{Bool, cond}
 use Prim.Native.Nat.{ℕ}
 use Rattle.sets.specs.Counting.{any, lowest}

@@ -4,7 +4,7 @@ ghost use mathlib.Core.Bool.{_&&_, cond};
 ghost use Rattle.sets.specs.Counting.{any, sum};
 ghost use Rattle.sets.specs.Sets.{member, union, difference, strictly-included, size, collect, gather};
 ghost use Rattle.graph.specs.Tables.{at, table};
-ghost use Rattle.graph.specs.Graph.{role-count};
+ghost use Rattle.graph.specs.Graph.{role-count, max-alone, end-roles};
 ghost use Rattle.graph.specs.Drawing.{below, edge, juniors, seniors, edge-count, direct, roles-below};
 ghost use Rattle.graph.specs.Reading.{read-set, sets-in, drawn-from};
 ghost use Rattle.graph.specs.Working.{less-juniors};
@@ -25,14 +25,14 @@ use crate::table::whole;
 
 // The ordinary roles: those present without the numbers of the end roles.
 pub fn ordinary_roles(roles: u64) -> u64
-    ensures { λ v. ⌜ v ≡ difference roles 3 ⌝ }
+    ensures { λ v. ⌜ v ≡ difference roles end-roles ⌝ }
 {
     sets::difference(roles, END_ROLES)
 }
 
 // The roles that can lie above another: the ordinary ones and MaxRole.
 pub(crate) fn senior_roles(roles: u64) -> u64
-    ensures { λ v. ⌜ v ≡ union (difference roles 3) 2 ⌝ }
+    ensures { λ v. ⌜ v ≡ union (difference roles end-roles) max-alone ⌝ }
 {
     sets::union(ordinary_roles(roles), MAX_ROLE)
 }

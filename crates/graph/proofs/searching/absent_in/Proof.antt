@@ -1,4 +1,4 @@
--- `graph::searching::absent_in` meets its contract: present are the end roles, which are the members of 3, and the ordinary roles.
+-- `graph::searching::absent_in` meets its contract: present are the end roles and the ordinary roles.
 -- Assumes nothing.
 use mathlib.Core.Bool.{Bool, not, _&&_, _||_}
 use mathlib.Core.List.{[]}
@@ -6,7 +6,7 @@ use mathlib.Core.Path.{_≡_, ap, _∙_}
 use Prim.Native.Nat.{ℕ}
 use Rattle.sets.specs.Sets.{member, union, difference}
 use Rattle.sets.proofs.Laws.{member-union, member-difference}
-use Rattle.graph.specs.Graph.{role-count, present}
+use Rattle.graph.specs.Graph.{role-count, present, end-roles}
 use Rattle.graph.specs.Reading.{drawn-from}
 use Rattle.graph.specs.Searching.{first}
 use Rattle.graph.proofs.DrawingCode.{member-ends}
@@ -14,13 +14,13 @@ use Rattle.graph.proofs.Searches.{first-cong}
 use Rattle.graph.proofs.searching.absent_in.Statement.{statement}
 use Rattle.graph.proofs.searching.absent_in.Tie as tie
 
-first-absent : (roles s : ℕ) → first role-count (λ n. member n (difference s (union 3 roles))) ≡ first role-count (λ n. member n s && not (present (drawn-from roles []) n))
+first-absent : (roles s : ℕ) → first role-count (λ n. member n (difference s (union end-roles roles))) ≡ first role-count (λ n. member n s && not (present (drawn-from roles []) n))
 unfolding present
 first-absent roles s =
-    first-cong role-count (λ n. member n (difference s (union 3 roles))) (λ n. member n s && not (present (drawn-from roles []) n))
+    first-cong role-count (λ n. member n (difference s (union end-roles roles))) (λ n. member n s && not (present (drawn-from roles []) n))
     (λ n _.
-    member-difference n s (union 3 roles)
-    ∙ ap (λ (b : Bool). member n s && not b) (member-union n 3 roles ∙ ap (λ (b : Bool). b || member n roles) (member-ends n)))
+    member-difference n s (union end-roles roles)
+    ∙ ap (λ (b : Bool). member n s && not b) (member-union n end-roles roles ∙ ap (λ (b : Bool). b || member n roles) (member-ends n)))
 
 returns : tie.Need-returns
 returns c =

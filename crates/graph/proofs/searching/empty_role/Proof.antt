@@ -8,7 +8,7 @@ use Prim.Native.Nat.{ℕ}
 use lib.Dec.{eqb}
 use Rattle.sets.specs.Sets.{difference}
 use Rattle.graph.specs.Tables.{at}
-use Rattle.graph.specs.Graph.{role-count, effective}
+use Rattle.graph.specs.Graph.{role-count, effective, end-roles}
 use Rattle.graph.specs.Refusing.{empty-role}
 use Rattle.graph.specs.Reading.{sets-in, drawn-from, read-found}
 use Rattle.graph.proofs.Searches.{Search, read-test, starts-ordinary, hit, goes-on, falls, miss, among-ordinary}
@@ -20,7 +20,7 @@ abbrev empty-at : List ℕ → ℕ → Bool
 empty-at sets r = eqb (at sets r) 0
 
 abbrev Inv-loop : tie.InvT-loop
-Inv-loop roles sets rest₀ rest = Search role-count (empty-at (sets-in sets)) (difference roles 3) rest
+Inv-loop roles sets rest₀ rest = Search role-count (empty-at (sets-in sets)) (difference roles end-roles) rest
 
 abbrev μ-loop : tie.MeasureT-loop
 μ-loop roles sets rest₀ rest = rest

@@ -1,21 +1,21 @@
--- `graph::searching::end_in` meets its contract: the end roles are the members of 3.
+-- `graph::searching::end_in` meets its contract: the members of the set of end roles are the end roles.
 -- Assumes nothing.
 use mathlib.Core.Bool.{Bool, _&&_}
 use mathlib.Core.Path.{_≡_, ap, _∙_}
 use Prim.Native.Nat.{ℕ}
 use Rattle.sets.specs.Sets.{member, intersection}
 use Rattle.sets.proofs.Laws.{member-intersection}
-use Rattle.graph.specs.Graph.{role-count, is-end}
+use Rattle.graph.specs.Graph.{role-count, is-end, end-roles}
 use Rattle.graph.specs.Searching.{first}
 use Rattle.graph.proofs.DrawingCode.{member-ends}
 use Rattle.graph.proofs.Searches.{first-cong}
 use Rattle.graph.proofs.searching.end_in.Statement.{statement}
 use Rattle.graph.proofs.searching.end_in.Tie as tie
 
-first-end : (s : ℕ) → first role-count (λ n. member n (intersection 3 s)) ≡ first role-count (λ n. is-end n && member n s)
+first-end : (s : ℕ) → first role-count (λ n. member n (intersection end-roles s)) ≡ first role-count (λ n. is-end n && member n s)
 first-end s =
-    first-cong role-count (λ n. member n (intersection 3 s)) (λ n. is-end n && member n s)
-    (λ n _. member-intersection n 3 s ∙ ap (λ (b : Bool). b && member n s) (member-ends n))
+    first-cong role-count (λ n. member n (intersection end-roles s)) (λ n. is-end n && member n s)
+    (λ n _. member-intersection n end-roles s ∙ ap (λ (b : Bool). b && member n s) (member-ends n))
 
 returns : tie.Need-returns
 returns c = c .lowest-in .ensures ∙ ap (λ (s : ℕ). first role-count (λ n. member n s)) (c .before .intersection .ensures) ∙ first-end (c .before .before .args .s)

@@ -7,7 +7,7 @@ use mathlib.Core.Path.{_∙_}
 use Prim.Native.Nat.{ℕ}
 use Rattle.sets.specs.Sets.{difference}
 use Rattle.graph.specs.Tables.{at}
-use Rattle.graph.specs.Graph.{role-count, effective}
+use Rattle.graph.specs.Graph.{role-count, effective, end-roles}
 use Rattle.graph.specs.Conflicts.{holds-both}
 use Rattle.graph.specs.Refusing.{offered-role}
 use Rattle.graph.specs.Reading.{sets-in, drawn-from, read-found}
@@ -20,7 +20,7 @@ abbrev both-at : List ℕ → ℕ → ℕ → ℕ → Bool
 both-at sets a b r = holds-both a b (at sets r)
 
 abbrev Inv-loop : tie.InvT-loop
-Inv-loop roles sets a b rest₀ rest = Search role-count (both-at (sets-in sets) (a .0) (b .0)) (difference roles 3) rest
+Inv-loop roles sets a b rest₀ rest = Search role-count (both-at (sets-in sets) (a .0) (b .0)) (difference roles end-roles) rest
 
 abbrev μ-loop : tie.MeasureT-loop
 μ-loop roles sets a b rest₀ rest = rest

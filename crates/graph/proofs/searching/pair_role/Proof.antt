@@ -7,7 +7,7 @@ use mathlib.Core.Path.{_≡_, refl, ap, _∙_, sym}
 use Prim.Native.Nat.{ℕ}
 use Rattle.sets.specs.Sets.{meets, difference}
 use Rattle.graph.specs.Tables.{at}
-use Rattle.graph.specs.Graph.{role-count, effective, privilege-count}
+use Rattle.graph.specs.Graph.{role-count, effective, privilege-count, end-roles}
 use Rattle.graph.specs.Conflicts.{holds-pair}
 use Rattle.graph.specs.Refusing.{pair-role}
 use Rattle.graph.specs.Searching.{nothing}
@@ -28,7 +28,7 @@ abbrev μ-loop : tie.MeasureT-loop
 μ-loop roles sets conflicts found₀ rest r i left₀ result left = read-set left
 
 abbrev Inv-roles : tie.InvT-roles
-Inv-roles roles sets conflicts found₀ rest₀ result rest = (read-found result ≡ nothing) × Search role-count (pair-at (sets-in sets) (sets-in conflicts)) (difference roles 3) rest
+Inv-roles roles sets conflicts found₀ rest₀ result rest = (read-found result ≡ nothing) × Search role-count (pair-at (sets-in sets) (sets-in conflicts)) (difference roles end-roles) rest
 
 abbrev μ-roles : tie.MeasureT-roles
 μ-roles roles sets conflicts found₀ rest₀ result rest = rest

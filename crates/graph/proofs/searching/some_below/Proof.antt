@@ -7,7 +7,7 @@ use mathlib.Core.Logic.{inl, inr}
 use mathlib.Core.Path.{_≡_, sym, ap, _∙_}
 use Rattle.sets.specs.Sets.{member, intersection, union, difference}
 use Rattle.sets.proofs.Laws.{intersection-lt}
-use Rattle.graph.specs.Graph.{role-count, effective}
+use Rattle.graph.specs.Graph.{role-count, effective, min-alone, end-roles}
 use Rattle.graph.specs.Reading.{drawn-from}
 use Rattle.graph.proofs.Searches.{Search, starts, any-hit, goes-on, falls, any-miss, ways-below, way-to-max, way-from-min, way-inside, no-way, high, none-below, found-below}
 use Rattle.graph.proofs.searching.some_below.Statement.{statement}
@@ -15,7 +15,7 @@ use Rattle.graph.proofs.searching.some_below.Tie as tie
 
 abbrev Inv-loop : tie.InvT-loop
 Inv-loop roles sets all j top rest₀ rest =
-    Search role-count (ways-below (drawn-from roles sets) all j) (intersection all (union (difference roles 3) 1)) rest
+    Search role-count (ways-below (drawn-from roles sets) all j) (intersection all (union (difference roles end-roles) min-alone)) rest
 
 abbrev μ-loop : tie.MeasureT-loop
 μ-loop roles sets all j top rest₀ rest = rest
@@ -30,7 +30,7 @@ loop-holds : tie.Need-loop-holds Inv-loop μ-loop
 loop-holds c =
     let a = c .before .before .before .before .before .before .before .before .args in
     rw (c .intersection .ensures, c .before .union .ensures, c .before .before .ordinary-roles .ensures)
-    (starts role-count _ (intersection (a .all) (union (difference (a .roles) 3) 1)) (intersection-lt role-count (a .all) _ (search needs)))
+    (starts role-count _ (intersection (a .all) (union (difference (a .roles) end-roles) min-alone)) (intersection-lt role-count (a .all) _ (search needs)))
 
 -- The role j can lie above others.
 raised : (c : tie.After-intersection Inv-loop μ-loop)

@@ -3,7 +3,7 @@
 use borrow.Author.Needs.{needs}
 use mathlib.Core.Path.{_∙_, sym}
 use Rattle.sets.specs.Sets.{difference}
-use Rattle.graph.specs.Graph.{role-count, effective}
+use Rattle.graph.specs.Graph.{role-count, effective, end-roles}
 use Rattle.graph.specs.Refusing.{twin-role}
 use Rattle.graph.specs.Reading.{drawn-from, read-found}
 use Rattle.graph.proofs.Searches.{Search, starts-ordinary, hit, goes-on, falls, miss, among-ordinary, has-twin, twin-test}
@@ -11,7 +11,7 @@ use Rattle.graph.proofs.searching.twin_role.Statement.{statement}
 use Rattle.graph.proofs.searching.twin_role.Tie as tie
 
 abbrev Inv-loop : tie.InvT-loop
-Inv-loop roles sets rest₀ rest = Search role-count (has-twin (drawn-from roles sets)) (difference roles 3) rest
+Inv-loop roles sets rest₀ rest = Search role-count (has-twin (drawn-from roles sets)) (difference roles end-roles) rest
 
 abbrev μ-loop : tie.MeasureT-loop
 μ-loop roles sets rest₀ rest = rest

@@ -8,7 +8,7 @@ use Prim.Native.Nat.{ℕ}
 use Rattle.sets.specs.Sets.{difference, included}
 use Rattle.sets.specs.Counting.{any}
 use Rattle.graph.specs.Tables.{at}
-use Rattle.graph.specs.Graph.{role-count, ordinary, effective}
+use Rattle.graph.specs.Graph.{role-count, ordinary, effective, end-roles}
 use Rattle.graph.specs.Reading.{read-set, sets-in, drawn-from}
 use Rattle.graph.proofs.Searches.{Search, read-test, starts-ordinary, any-hit, goes-on, falls, any-miss, any-ordinary}
 use Rattle.seats.proofs.loading.max_lacks.Statement.{statement}
@@ -19,7 +19,7 @@ abbrev lacks : ℕ → List ℕ → ℕ → Bool
 lacks top sets r = not (included (at sets r) top)
 
 abbrev Inv-loop : tie.InvT-loop
-Inv-loop roles sets top rest₀ rest = Search role-count (lacks (read-set top) (sets-in sets)) (difference roles 3) rest
+Inv-loop roles sets top rest₀ rest = Search role-count (lacks (read-set top) (sets-in sets)) (difference roles end-roles) rest
 
 abbrev μ-loop : tie.MeasureT-loop
 μ-loop roles sets top rest₀ rest = rest
