@@ -40,6 +40,7 @@ pub mod LoadedSaves
 pub mod TapeRecords
 pub mod TapePlaces
 pub mod Readers
+pub mod ReaderCalls
 pub mod Lines
 pub mod Feeding
 -- ---- document 01's samples
