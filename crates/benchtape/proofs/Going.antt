@@ -14,8 +14,8 @@ use Rattle.graph.specs.Drawing.{below, edge, edge-count}
 use Rattle.graph.specs.Reading.{drawn-from}
 use Rattle.seats.specs.Bytes.{Filled, fill}
 use Rattle.seats.specs.Seats.{State, fresh}
-use Rattle.seats.specs.Tape.{records, fed, feed}
-use Rattle.seats.specs.Reading.{read-state, read-filled}
+use Rattle.seats.specs.Tape.{records, fed, PartAnswer, feed}
+use Rattle.seats.specs.Reading.{read-state, read-filled, read-part}
 use Rattle.seats.proofs.TapeRecords.{count-records, fed-none, fed-append}
 use Rattle.seats.proofs.Written.{fill-written}
 use Rattle.seats.proofs.Feeding.{Told, feed-told}
@@ -24,6 +24,8 @@ use Rattle.benchtape.specs.declared.Progress.{Progress}
 use Rattle.benchtape.specs.declared.Read as read-enum
 use Rattle.benchtape.specs.declared.Read.the-variants.{Bytes}
 use Rattle.seats.specs.declared.State as state-struct
+use Rattle.seats.specs.declared.PartAnswer as part-enum
+use Rattle.seats.specs.declared.PartAnswer.the-variants as part-answers
 use Rattle.seats.specs.declared.Filled as filled-enum
 use Rattle.seats.specs.declared.Filled.the-variants.{Written}
 
@@ -34,18 +36,17 @@ never e = let z : _≡_ {A = ℕ} 0 1 = cc in absurd (omega arith)
 pub within : {r : read-enum.Read} {n : ℕ} (buffer : List ℕ) → r ≡ Bytes n → Within r buffer → Counts n buffer
 within buffer e w = subst (λ (r : read-enum.Read). Within r buffer) e w
 
--- What a buffer has at its front where bytes were written.
-module _ {filled : filled-enum.Filled} {n : ℕ} (w : filled ≡ Written n) where
-  -- The lines of a part of a tape.
-  pub fed-told : (s : State) (count : ℕ) (bytes buffer : List ℕ) {m : List ℕ} {z : ℕ × State}
-      → _≡_ {A = (Filled × List ℕ) × (ℕ × State)} ((read-filled filled, m), z) (feed s count bytes buffer) → Told s count bytes n m z
-  unfolding read-filled
-  fed-told s count bytes buffer {m} {z} e = feed-told s count bytes buffer (ap (λ (f : filled-enum.Filled). ((read-filled f, m), z)) (sym w) ∙ e)
+-- The lines that a buffer has at its front where feeding a part of a tape wrote them.
+pub fed-told : {answer : part-enum.PartAnswer} {n : ℕ} → answer ≡ part-answers.Written n → (s : State) (count : ℕ) (bytes buffer : List ℕ) {m : List ℕ} {z : ℕ × State}
+    → _≡_ {A = (PartAnswer × List ℕ) × (ℕ × State)} ((read-part answer, m), z) (feed s count bytes buffer) → Told s count bytes n m z
+unfolding read-part
+fed-told w s count bytes buffer {m} {z} e = feed-told s count bytes buffer (ap (λ (a : part-enum.PartAnswer). ((read-part a, m), z)) (sym w) ∙ e)
 
-  -- A line.
-  pub line-told : (line buffer : List ℕ) {m : List ℕ} → _≡_ {A = Filled × List ℕ} (read-filled filled, m) (fill 9 line buffer) → (n ≤ length m) × (take n m ≡ line)
-  unfolding read-filled
-  line-told line buffer {m} e = fill-written 9 buffer line (ap (λ (f : filled-enum.Filled). (read-filled f, m)) (sym w) ∙ e)
+-- The line that a buffer has at its front where bytes were written.
+pub line-told : {filled : filled-enum.Filled} {n : ℕ} → filled ≡ Written n → (line buffer : List ℕ) {m : List ℕ}
+    → _≡_ {A = Filled × List ℕ} (read-filled filled, m) (fill 9 line buffer) → (n ≤ length m) × (take n m ≡ line)
+unfolding read-filled
+line-told w line buffer {m} e = fill-written 9 buffer line (ap (λ (f : filled-enum.Filled). (read-filled f, m)) (sym w) ∙ e)
 
 -- The edges of a state do not depend on its conflicts and seats.
 pub edges-of : (s : state-struct.State) → edge-count (drawn-from (s .roles) (s .sets)) ≡ edge-count (read-state s .graph)

@@ -16,11 +16,12 @@ use libc::STDERR_FILENO;
 use libc::STDIN_FILENO;
 use libc::STDOUT_FILENO;
 use seats::Filled;
+use seats::PartAnswer;
 use seats::State;
 use seats::records::RECORD;
 use seats::tape;
-use seats::tape::LINE;
 use seats::text;
+use seats::text::LINE;
 
 // How many records are read at once.
 const RECORDS: usize = 1024;
@@ -109,10 +110,11 @@ fn answer(progress: Progress, bytes: &[u8]) -> Progress
     let mut room = room();
     let state = progress.state;
     let fed = tape::feed(state, progress.count, bytes, &mut room);
-    let filled = fed.filled;
-    match filled {
-        Filled::TooShort(_) => stop(progress, b"benchtape: too many records\n"),
-        Filled::Written(n) => {
+    let answered = fed.answer;
+    match answered {
+        PartAnswer::Uncounted => stop(progress, b"benchtape: too many records\n"),
+        PartAnswer::TooShort(_) => stop(progress, b"benchtape: no room for the lines\n"),
+        PartAnswer::Written(n) => {
             if !write_lines(progress, bytes, &room[..n]) {
                 return stop(progress, b"benchtape: writing failed\n");
             }

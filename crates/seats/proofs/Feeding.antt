@@ -1,113 +1,179 @@
 -- Feeding a part of a tape: what is left of it, with the buffer and the state so far, comes to what the whole part comes to; and what a caller learns.
 -- Assumes nothing.
-use mathlib.Core.Bool.{Bool, true, false, cond, _&&_}
+use mathlib.Core.Bool.{Bool, true, false, cond, _||_}
 use mathlib.Core.List.{List, [], _++_}
-use mathlib.Core.Path.{_≡_, refl, sym, ap, ap₂, _∙_, subst}
-use Prim.Native.Nat.{ℕ, _+_, _-_, _*_, _^_, _≤_, _<_}
+use mathlib.Core.Path.{_≡_, refl, sym, ap, ap₂, _∙_}
+use Prim.Native.Nat.{ℕ, _+_, _*_, _/_, _^_, _≤_, _<_}
 use native.Mathlib.Omega.{arith}
-use lib.ListN.{length, take, drop, length-drop, drop-of-length-le}
-use lib.Dec.{T, leb, ltb, leb→le, ltb→lt}
-use borrow.Author.Tests.{ltb-true}
-use Rattle.sets.proofs.Tests.{both}
+use lib.ListN.{length, take, drop, length-append, length-drop, drop-of-length-le}
+use lib.Seq.{sets, length-sets}
+use lib.Dec.{leb, ltb}
+use borrow.Author.Tests.{le-leb, lt-leb, lt-ltb, le-ltb, leb-true, leb-false, ltb-true}
 use Rattle.seats.specs.Bytes.{Filled, written, too-short, fill}
 use Rattle.seats.specs.Seats.{State}
 use Rattle.seats.specs.Calls.{Answer}
 use Rattle.seats.specs.Records.{step}
 use Rattle.seats.specs.Places.{record-at, record-end}
-use Rattle.seats.specs.Tape.{records, line, fed, longest-line, feed}
-use Rattle.seats.specs.Working.{record-count}
+use Rattle.seats.specs.Tape.{records, line, fed, PartAnswer, fills, uncounted, feed}
+use Rattle.seats.specs.Reading.{read-state}
+use Rattle.seats.specs.Working.{record-count, longest-line, Lined, PartRun}
 use Rattle.seats.specs.Written.{Written}
-use Rattle.seats.proofs.Written.{written-length, Unwritten, unwritten-all, unwritten-length, unwritten-next, unwritten-none, filled, fill-written}
+use Rattle.seats.specs.declared.text.Lines.{Lines}
+use Rattle.seats.specs.declared.running.Ran.{Ran}
+use Rattle.seats.proofs.Written.{Unwritten, unwritten-all, unwritten-next, unwritten-none, filled, unfilled, fill-written}
 use Rattle.seats.proofs.TapeRecords.{count-records, records-first, fed-none}
 use Rattle.seats.proofs.TapePlaces.{records-more, fed-more}
 
--- Of a part fed from the state s₀ into the buffer l₀ after count records, what starts at `start` is left, for the buffer l from `place` on, after index records and from the state s.
-pub record Left (l₀ : List ℕ) (count : ℕ) (part : List ℕ) (s₀ : State) (l : List ℕ) (index place start : ℕ) (s : State) : Type 0 where
+-- ---- one line more
+-- The buffer stays as long as it was.
+pub lined-length : {l m : List ℕ} {b r : Lines} {a : Answer} → Lined l b a m r → length m ≡ length l
+lined-length {l} {m} {b} {r} {a} w = ap length (w .put) ∙ go (leb (r .length) (length l))
+  where
+    go : (t : Bool) → length (cond t (sets l (b .length) (line (r .index) a)) l) ≡ length l
+    go true = length-sets l (b .length) (line (r .index) a)
+    go false = refl
+
+-- Where it has room, the line is written.
+pub lined-written : {l m : List ℕ} {b r : Lines} {a : Answer} → Lined l b a m r → r .length ≤ length l → Written l (b .length) (line (r .index) a) m (r .length)
+lined-written {l} {m} {b} {r} {a} w h = record {
+  list = w .put ∙ ap (λ (t : Bool). cond t (sets l (b .length) (line (r .index) a)) l) (le-leb (r .length) (length l) h);
+  place = w .longer;
+}
+
+-- ---- record after record
+-- Of a part fed from the state s₀ into the buffer l₀ after count records, what starts at `start` is left, for the buffer l behind the lines b, and from the state s.
+pub record Left (l₀ : List ℕ) (count : ℕ) (part : List ℕ) (s₀ : State) (l : List ℕ) (b : Lines) (start : ℕ) (s : State) : Type 0 where
   pub within : start ≤ length part
-  pub room : place + longest-line * length (records (drop start part)) ≤ length l
-  pub lines : Unwritten l₀ 0 (fed s₀ count part .0) l place (fed s index (drop start part) .0)
-  pub rest : fed s index (drop start part) .1 ≡ fed s₀ count part .1
+  pub room : b .length + longest-line * length (records (drop start part)) ≤ longest-line * length (records part)
+  pub same-length : length l ≡ length l₀
+  pub sum : b .length + length (fed s (b .index) (drop start part) .0) ≡ length (fed s₀ count part .0)
+  pub lines : length (fed s₀ count part .0) ≤ length l₀ → Unwritten l₀ 0 (fed s₀ count part .0) l (b .length) (fed s (b .index) (drop start part) .0)
+  pub rest : fed s (b .index) (drop start part) .1 ≡ fed s₀ count part .1
 
 module _ (l₀ : List ℕ) (count : ℕ) (part : List ℕ) (s₀ : State) where
   -- All of it is left.
-  pub left-start : longest-line * length (records part) ≤ length l₀ → Left l₀ count part s₀ l₀ count 0 0 s₀
-  left-start h = record { within = omega arith; room = omega arith; lines = unwritten-all _ _ _; rest = refl }
+  pub left-start : Left l₀ count part s₀ l₀ (record { index = count; length = 0 }) 0 s₀
+  left-start = record { within = omega arith; room = omega arith; same-length = refl; sum = omega arith; lines = λ h. unwritten-all _ _ _; rest = refl }
 
-  -- The buffer is as long as it was.
-  pub left-length : {l : List ℕ} {index place start : ℕ} {s : State} → Left l₀ count part s₀ l index place start s → length l ≡ length l₀
-  left-length w = unwritten-length (w .lines)
-
-  -- Where bytes are left, there is room for a line, and the records so far are fewer than all.
-  pub left-room : {l : List ℕ} {index place start : ℕ} {s : State} → Left l₀ count part s₀ l index place start s → start < length part
-      → (place + longest-line ≤ length l) × (index + 1 ≤ count + length (records part))
+  -- Where bytes are left, the next line's index and the lines' length with the longest line stay below their bounds.
+  pub left-room : {l : List ℕ} {b : Lines} {start : ℕ} {s : State} → Left l₀ count part s₀ l b start s → start < length part
+      → count + length (records part) < 2 ^ 64 → length part < 2 ^ 63 → (b .index + 1 < 2 ^ 64) × (b .length + longest-line < 2 ^ 64)
   unfolding fed
-  left-room {start = start} w h =
+  left-room {start = start} w h counted short =
       let d = length-drop start part in
       let n = ap length (records-first (drop start part) (omega arith)) in
       let a = w .room in
+      let m = count-records part in
       let b = ap (λ (z : ℕ × State). z .0) (w .rest) in
       (omega arith, omega arith)
 
-  -- One record is fed: its answer and state are the step's, and its line is put at the place.
-  pub left-next : {l m : List ℕ} {index place start next j : ℕ} {s t : State} {a : Answer}
-      → Left l₀ count part s₀ l index place start s → start < length part → next ≡ record-end part start
-      → (a, t) ≡ step s (record-at part start) → Written l place (line (index + 1) a) m j → j ≤ place + longest-line
-      → Left l₀ count part s₀ m (index + 1) j next t
-  left-next {l} {m} {index} {place} {start} {next} {j} {s} {t} {a} w h e u p b =
-      let behind = fed t (index + 1) (drop next part) in
+  -- One record is fed: its answer and state are the step's, and its line is put behind the others.
+  pub left-next : {l m : List ℕ} {b r : Lines} {start next : ℕ} {s t : State} {a : Answer}
+      → Left l₀ count part s₀ l b start s → start < length part → next ≡ record-end part start
+      → (a, t) ≡ step s (record-at part start) → Lined l b a m r → Left l₀ count part s₀ m r next t
+  left-next {l} {m} {b} {r} {start} {next} {s} {t} {a} w h e u p =
+      let behind = fed t (r .index) (drop next part) in
       let n : length (records (drop start part)) ≡ length (records (drop next part)) + 1 = rw e (ap length (records-more part start h) ∙ omega arith) in
-      let f : fed s index (drop start part) ≡ (line (index + 1) a ++ behind .0, behind .1) =
-      rw e (fed-more part start h s index)
-      ∙ ap (λ (z : Answer × State). (line (index + 1) (z .0) ++ fed (z .1) (index + 1) (drop next part) .0, fed (z .1) (index + 1) (drop next part) .1)) (sym u) in
+      let f : fed s (b .index) (drop start part) ≡ (line (r .index) a ++ behind .0, behind .1) =
+      rw (e, p .counted) (fed-more part start h s (b .index))
+      ∙ ap (λ (z : Answer × State). (line (r .index) (z .0) ++ fed (z .1) (r .index) (drop next part) .0, fed (z .1) (r .index) (drop next part) .1)) (sym u) in
       let f₀ = ap (λ (z : List ℕ × (ℕ × State)). z .0) f in
+      let y = w .sum in
+      let v = ap length f₀ ∙ length-append (line (r .index) a) (behind .0) in
+      let g = p .longer in
       record {
         within = omega arith;
         room =
             let x = w .room in
-            let y = written-length p in
+            let k = p .bounded in
             omega arith;
-        lines = unwritten-next (line (index + 1) a) (behind .0) (rw f₀ at (w .lines)) p;
+        same-length = lined-length p ∙ w .same-length;
+        sum = omega arith;
+        lines = λ k. unwritten-next (line (r .index) a) (behind .0) (rw f₀ at (w .lines k)) (lined-written p (let q = w .same-length in omega arith));
         rest = ap (λ (z : List ℕ × (ℕ × State)). z .1) (sym f) ∙ w .rest;
       }
 
   -- Nothing is left.
-  pub left-end : {l : List ℕ} {index place start : ℕ} {s : State} → Left l₀ count part s₀ l index place start s → length part ≤ start
-      → _≡_ {A = (Filled × List ℕ) × (ℕ × State)} ((written place, l), (index, s)) (fill 9 (fed s₀ count part .0) l₀, fed s₀ count part .1)
-  left-end {l} {index} {place} {start} {s} w h =
+  pub left-end : {l : List ℕ} {start : ℕ} (r : Ran) → Left l₀ count part s₀ l (r .lines) start (read-state (r .state)) → length part ≤ start → PartRun s₀ count part l₀ r l
+  left-end {l} {start} r w h =
+      let s = read-state (r .state) in
+      let b = r .lines in
       let d : drop start part ≡ [] = drop-of-length-le part h in
-      let f = ap (fed s index) d ∙ fed-none s index in
-      let f₀ : fed s index (drop start part) .0 ≡ [] = ap (λ (z : List ℕ × (ℕ × State)). z .0) f in
-      let p = unwritten-none (rw f₀ at (w .lines)) in
-      let k = written-length p in
-      let q = w .room in
-      let n = p .place in
-      ap₂ (λ (a : Filled × List ℕ) (b : ℕ × State). (a, b)) (filled 9 l₀ (fed s₀ count part .0) (omega arith) p)
-      (ap (λ (z : List ℕ × (ℕ × State)). z .1) (sym f) ∙ w .rest)
+      let f = ap (fed s (b .index)) d ∙ fed-none s (b .index) in
+      let f₀ : fed s (b .index) (drop start part) .0 ≡ [] = ap (λ (z : List ℕ × (ℕ × State)). z .0) f in
+      let n = ap length f₀ in
+      let x = w .sum in
+      record {
+        comes-to = ap (λ (z : List ℕ × (ℕ × State)). z .1) (sym f) ∙ w .rest;
+        long = omega arith;
+        bounded = let y = w .room in omega arith;
+        put = λ k. unwritten-none (rw f₀ at (w .lines (omega arith)));
+      }
 
--- ---- whether a part can be fed
--- Where n is how many records the part has, and b whether so many can be fed.
-module _ (s : State) (count : ℕ) (part buffer : List ℕ) {b : Bool} {n : ℕ}
-    (can : b ≡ (leb (longest-line * n) (length buffer) && ltb (count + n) (2 ^ 64))) (counted : n ≡ record-count (length part)) where
-  tested : (leb (longest-line * length (records part)) (length buffer) && ltb (count + length (records part)) (2 ^ 64)) ≡ b
-  tested = ap (λ (n : ℕ). leb (longest-line * n) (length buffer) && ltb (count + n) (2 ^ 64)) (count-records part ∙ sym counted) ∙ sym can
+-- ---- whether a part is fed
+abbrev Result : Type 0
+Result = (PartAnswer × List ℕ) × (ℕ × State)
 
-  -- They cannot, and nothing is done.
-  pub feed-refused : b ≡ false → _≡_ {A = (Filled × List ℕ) × (ℕ × State)} ((too-short 9 0, buffer), (count, s)) (feed s count part buffer)
-  unfolding feed
-  feed-refused e = rw (tested ∙ e)
+module _ (s : State) (count : ℕ) (part buffer : List ℕ) where
+  -- Its records are too many to be counted, and nothing is done.
+  pub feed-uncounted : 2 ^ 64 ≤ count + length (records part) → _≡_ {A = Result} ((uncounted, buffer), (count, s)) (feed s count part buffer)
+  unfolding feed fed
+  feed-uncounted h = rw (le-ltb (count + length (records part)) (2 ^ 64) h)
 
-  module _ (e : b ≡ true) where
-    -- There is room, and the count stays below its bound.
-    pub feed-bounds : (longest-line * length (records part) ≤ length buffer) × (count + length (records part) < 2 ^ 64)
-    feed-bounds =
-        let m = length (records part) in
-        let (x, y) = both (leb (longest-line * m) (length buffer)) (ltb (count + m) (2 ^ 64)) (subst T (sym (tested ∙ e)) tt) in
-        (leb→le (longest-line * m) (length buffer) x, ltb→lt (count + m) (2 ^ 64) y)
+  module _ (counted : count + length (records part) < 2 ^ 64) where
+    -- What feeding comes to is what filling the buffer does.
+    counts : feed s count part buffer ≡ ((fills (fill 9 (fed s count part .0) buffer .0), fill 9 (fed s count part .0) buffer .1), cond (leb (length (fed s count part .0)) (length buffer)) (fed s count part .1) (count, s))
+    unfolding feed fed
+    counts = rw (lt-ltb (count + length (records part)) (2 ^ 64) counted)
 
-    -- The part is run.
-    pub feed-run : (fill 9 (fed s count part .0) buffer, fed s count part .1) ≡ feed s count part buffer
-    unfolding feed
-    feed-run = rw (tested ∙ e)
+    -- Its lines have no room, and nothing is done.
+    pub feed-refused : length buffer < length (fed s count part .0) → _≡_ {A = Result} ((fills (too-short 9 0), buffer), (count, s)) (feed s count part buffer)
+    feed-refused h =
+        ap₂ (λ (f : Filled × List ℕ) (t : Bool). ((fills (f .0), f .1), cond t (fed s count part .1) (count, s)))
+        (unfilled 9 buffer (fed s count part .0) h) (sym (lt-leb (length (fed s count part .0)) (length buffer) h))
+        ∙ sym counts
+
+    -- The part is run, its lines having room.
+    pub feed-run : {r : Ran} {m : List ℕ} → PartRun s count part buffer r m → r .lines .length ≤ length buffer
+        → _≡_ {A = Result} ((fills (written (r .lines .length)), m), (r .lines .index, read-state (r .state))) (feed s count part buffer)
+    feed-run {r} {m} p h =
+        let e = p .long in
+        let k : length (fed s count part .0) ≤ length buffer = omega arith in
+        ap₂ (λ (f : Filled × List ℕ) (z : ℕ × State). ((fills (f .0), f .1), z)) (filled 9 buffer (fed s count part .0) k (p .put h)) (p .comes-to)
+        ∙ ap (λ (t : Bool). ((fills (fill 9 (fed s count part .0) buffer .0), fill 9 (fed s count part .0) buffer .1), cond t (fed s count part .1) (count, s))) (sym (le-leb (length (fed s count part .0)) (length buffer) k))
+        ∙ sym counts
+
+  -- ---- whether its lines have room, so many bytes being there
+  abbrev Test : ℕ → Bool
+  Test room = leb (longest-line * length (records part)) room || leb (length (fed s count part .0)) room
+
+  -- The longest lines have, n being how many records the part has.
+  pub longest-fits : {n : ℕ} (room : ℕ) → n ≡ record-count (length part) → n ≤ room / longest-line → true ≡ Test room
+  longest-fits room e h = let k = count-records part in rw (le-leb (longest-line * length (records part)) room (omega arith))
+
+  -- They are measured by running them.
+  pub measured-fits : {n : ℕ} {r : Ran} {m : List ℕ} (room : ℕ) → n ≡ record-count (length part) → room / longest-line < n → PartRun s count part buffer r m → leb (r .lines .length) room ≡ Test room
+  measured-fits room e h p =
+      let k = count-records part in
+      rw (lt-leb (longest-line * length (records part)) room (omega arith)) (ap (λ (n : ℕ). leb n room) (p .long))
+
+  -- They have none.
+  pub test-fails : {b : Bool} (room : ℕ) → b ≡ Test room → b ≡ false → room < length (fed s count part .0)
+  test-fails room e h = leb-false (length (fed s count part .0)) room (go (leb (longest-line * length (records part)) room) (leb (length (fed s count part .0)) room) (sym e ∙ h))
+    where
+      go : (a b : Bool) → (a || b) ≡ false → b ≡ false
+      go true true h = h
+      go true false h = refl
+      go false b h = h
+
+  -- They have, and what running them wrote lies within.
+  pub test-holds : {b : Bool} {r : Ran} {m : List ℕ} (room : ℕ) → b ≡ Test room → b ≡ true → PartRun s count part buffer r m → r .lines .length ≤ room
+  test-holds {r = r} room e h p = go (leb (longest-line * length (records part)) room) (leb (length (fed s count part .0)) room) refl refl (sym e ∙ h)
+    where
+      go : (a b : Bool) → leb (longest-line * length (records part)) room ≡ a → leb (length (fed s count part .0)) room ≡ b → (a || b) ≡ true → r .lines .length ≤ room
+      go true b x y h = let k = leb-true (longest-line * length (records part)) room x in let l = p .bounded in omega arith
+      go false true x y h = let k = leb-true (length (fed s count part .0)) room y in let l = p .long in omega arith
+      go false false x y h = let z : _≡_ {A = ℕ} 0 1 = cc in absurd (omega arith)
 
 -- ---- what a caller learns
 -- Where lines were written, they are those of the part at the buffer's front, and the rest is what the part comes to.
@@ -117,17 +183,26 @@ pub record Told (s : State) (count : ℕ) (part : List ℕ) (n : ℕ) (m : List 
   pub rest : z ≡ fed s count part .1
   pub bound : z .0 < 2 ^ 64
 
-pub feed-told : (s : State) (count : ℕ) (part buffer : List ℕ) {n : ℕ} {m : List ℕ} {z : ℕ × State} → ((written n, m), z) ≡ feed s count part buffer → Told s count part n m z
-unfolding feed fed
-feed-told s count part buffer {n} {m} {z} = go (leb (longest-line * length (records part)) (length buffer)) (ltb (count + length (records part)) (2 ^ 64)) refl
+-- What filling the buffer does, where feeding answers so.
+abbrev filling : PartAnswer → Filled
+filling (fills f) = f
+filling uncounted = too-short 0 0
+
+-- Lines were written only where the records are counted and the lines have room.
+pub feed-told : (s : State) (count : ℕ) (part buffer : List ℕ) {n : ℕ} {m : List ℕ} {z : ℕ × State} → ((fills (written n), m), z) ≡ feed s count part buffer → Told s count part n m z
+unfolding feed
+feed-told s count part buffer {n} {m} {z} = go (ltb (fed s count part .1 .0) (2 ^ 64)) (leb (length (fed s count part .0)) (length buffer)) refl refl
   where
-    go : (a b : Bool) → ltb (count + length (records part)) (2 ^ 64) ≡ b
-        → _≡_ {A = (Filled × List ℕ) × (ℕ × State)} ((written n, m), z) (cond (a && b) (fill 9 (fed s count part .0) buffer, fed s count part .1) ((too-short 9 0, buffer), (count, s))) → Told s count part n m z
-    go true true h e =
-        let w = fill-written 9 buffer (fed s count part .0) (ap (λ (p : (Filled × List ℕ) × (ℕ × State)). p .0) e) in
-        let r = ap (λ (p : (Filled × List ℕ) × (ℕ × State)). p .1) e in
-        let k = ap (λ (p : ℕ × State). p .0) r in
-        record { within = w .0; text = w .1; rest = r; bound = rw k (ltb-true (count + length (records part)) (2 ^ 64) h) }
-    go true false h e = let d = ap (λ (p : (Filled × List ℕ) × (ℕ × State)). p .0 .0) e in let z : _≡_ {A = ℕ} 0 1 = cc in absurd (omega arith)
-    go false true h e = let d = ap (λ (p : (Filled × List ℕ) × (ℕ × State)). p .0 .0) e in let z : _≡_ {A = ℕ} 0 1 = cc in absurd (omega arith)
-    go false false h e = let d = ap (λ (p : (Filled × List ℕ) × (ℕ × State)). p .0 .0) e in let z : _≡_ {A = ℕ} 0 1 = cc in absurd (omega arith)
+    go : (a b : Bool) → ltb (fed s count part .1 .0) (2 ^ 64) ≡ a → leb (length (fed s count part .0)) (length buffer) ≡ b
+        → _≡_ {A = Result} ((fills (written n), m), z) (cond a ((fills (fill 9 (fed s count part .0) buffer .0), fill 9 (fed s count part .0) buffer .1), cond b (fed s count part .1) (count, s)) ((uncounted, buffer), (count, s))) → Told s count part n m z
+    go true true h k e =
+        let w = fill-written 9 buffer (fed s count part .0) (ap (λ (p : Result). (filling (p .0 .0), p .0 .1)) e) in
+        let r = ap (λ (p : Result). p .1) e in
+        let d = ap (λ (p : ℕ × State). p .0) r in
+        record { within = w .0; text = w .1; rest = r; bound = rw d (ltb-true (fed s count part .1 .0) (2 ^ 64) h) }
+    go true false h k e =
+        let d : _≡_ {A = Filled × List ℕ} (written n, m) (too-short 9 0, buffer) = ap (λ (p : Result). (filling (p .0 .0), p .0 .1)) e ∙ sym (unfilled 9 buffer (fed s count part .0) (leb-false (length (fed s count part .0)) (length buffer) k)) in
+        let f = ap (λ (p : Filled × List ℕ). p .0) d in
+        let z : _≡_ {A = ℕ} 0 1 = cc in
+        absurd (omega arith)
+    go false b h k e = let d = ap (λ (p : Result). p .0 .0) e in let z : _≡_ {A = ℕ} 0 1 = cc in absurd (omega arith)

@@ -41,6 +41,7 @@ pub mod TapeRecords
 pub mod TapePlaces
 pub mod Readers
 pub mod ReaderCalls
+pub mod StateCells
 pub mod Lines
 pub mod Feeding
 -- ---- document 01's samples

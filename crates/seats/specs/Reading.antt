@@ -9,6 +9,7 @@ use Rattle.seats.specs.Calls.{Call, change, declare, lift, assign, unass
 use Rattle.seats.specs.Records.{Decoded, malformed, well-formed}
 use Rattle.seats.specs.Bytes.{Filled, written, too-short}
 use Rattle.seats.specs.Images.{Counts, Measured, measured, unmeasured}
+use Rattle.seats.specs.Tape.{PartAnswer, fills, uncounted}
 use Rattle.seats.specs.declared.State as state-struct
 use Rattle.seats.specs.declared.Request as request-enum
 use Rattle.seats.specs.declared.Request.the-variants as requests
@@ -26,6 +27,8 @@ use Rattle.seats.specs.declared.ImageRead as image-struct
 use Rattle.seats.specs.declared.Measured as measured-enum
 use Rattle.seats.specs.declared.Measured.the-variants as measures
 use Rattle.seats.specs.declared.Counts as counts-struct
+use Rattle.seats.specs.declared.PartAnswer as part-enum
+use Rattle.seats.specs.declared.PartAnswer.the-variants as part-answers
 use Rattle.seats.specs.declared.Fed as fed-struct
 use Rattle.seats.specs.declared.Filled as filled-enum
 use Rattle.seats.specs.declared.Filled.the-variants as fillings
@@ -94,6 +97,12 @@ read-decision s d = (read-answer (d .answer), stored s (d .stored))
 abbrev pub read-changed : changed-struct.Changed → List ℕ → List ℕ → Answer × State
 read-changed r conflicts seats = (read-answer (r .answer), state-of (r .roles) (r .sets) conflicts seats)
 
+-- What feeding a part of a tape answers: as filling a buffer does, or that the records so far are not counted.
+unfoldable pub read-part : part-enum.PartAnswer → PartAnswer
+read-part (part-answers.Written n) = fills (written n)
+read-part (part-answers.TooShort r) = fills (too-short (r .number) (r .place))
+read-part part-answers.Uncounted = uncounted
+
 -- What feeding a part of a tape gives, with the buffer that it leaves.
-abbrev pub read-fed : fed-struct.Fed → List ℕ → (Filled × List ℕ) × (ℕ × State)
-read-fed f buffer = ((read-filled (f .filled), buffer), (f .count, read-state (f .state)))
+abbrev pub read-fed : fed-struct.Fed → List ℕ → (PartAnswer × List ℕ) × (ℕ × State)
+read-fed f buffer = ((read-part (f .answer), buffer), (f .count, read-state (f .state)))

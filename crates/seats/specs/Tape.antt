@@ -1,12 +1,12 @@
 -- Document 01, "The tape": the records of a tape, the lines that benchtape prints, and a tape fed in parts.
-use mathlib.Core.Bool.{cond, true, false, _&&_}
+use mathlib.Core.Bool.{cond, true, false}
 use mathlib.Core.List.{List, [], _∷_, _++_}
 use mathlib.Core.Path.{_≡_}
-use Prim.Native.Nat.{ℕ, zero, suc, _+_, _*_, _/_, _%_, _^_}
+use Prim.Native.Nat.{ℕ, zero, suc, _+_, _/_, _%_, _^_}
 use lib.ListN.{length, take, drop}
 use lib.Dec.{leb, ltb}
 use Rattle.graph.specs.Drawing.{edge-count}
-use Rattle.seats.specs.Bytes.{Filled, too-short, fill}
+use Rattle.seats.specs.Bytes.{Filled, fill}
 use Rattle.seats.specs.Seats.{State, fresh}
 use Rattle.seats.specs.Calls.{Answer, accepted, answered, refused}
 use Rattle.seats.specs.Records.{record-length}
@@ -76,17 +76,19 @@ fed s count part =
     let l = records part in
     (lines (suc count) (answers s l), (count + length l, end s l))
 
--- The longest line: an index of 20 digits, a number and a place of 3 digits each, two spaces and a line feed.
-abbrev pub longest-line : ℕ
-longest-line = 29
+-- What feeding a part of a tape answers: what filling the buffer does, or that 64 bits do not hold the records so far.
+pub data PartAnswer : Type 0 where
+  fills : Filled → PartAnswer
+  uncounted : PartAnswer
 
--- A part of a tape with its lines at a buffer's front; refusal 9 and nothing done where the buffer has not the longest line's room for each record, or 64 bits do not hold the records so far.
-unfoldable pub feed : State → ℕ → List ℕ → List ℕ → (Filled × List ℕ) × (ℕ × State)
+-- A part of a tape with its lines at a buffer's front, and what it comes to; where the buffer is shorter, refusal 9 and nothing done, and nothing either where 64 bits do not hold the records so far.
+unfoldable pub feed : State → ℕ → List ℕ → List ℕ → (PartAnswer × List ℕ) × (ℕ × State)
 feed s count part buffer =
-    let n = length (records part) in
-    cond (leb (longest-line * n) (length buffer) && ltb (count + n) (2 ^ 64))
-    (fill 9 (fed s count part .0) buffer, fed s count part .1)
-    ((too-short 9 0, buffer), (count, s))
+    let (text, after) = fed s count part in
+    let (filled, left) = fill 9 text buffer in
+    cond (ltb (after .0) (2 ^ 64))
+    ((fills filled, left), cond (leb (length text) (length buffer)) after (count, s))
+    ((uncounted, buffer), (count, s))
 
 -- Every part but the last ends where a record ends.
 unfoldable pub Parts : List (List ℕ) → Type 0

@@ -1,13 +1,21 @@
--- What the contracts of private functions speak of: the fields of a record by themselves, what refuses the removal of a role and any change after closing, and the end of a line.
+-- What the contracts of private functions speak of: the fields of a record by themselves, what refuses the removal of a role and any change after closing, the end of a line, the lines with one more, and a part of a tape run.
+use mathlib.Core.Bool.{cond}
 use mathlib.Core.List.{List, [], _∷_, _++_}
-use Prim.Native.Nat.{ℕ, _+_, _-_, _*_, _/_}
-use lib.ListN.{getD}
+use mathlib.Core.Path.{_≡_}
+use Prim.Native.Nat.{ℕ, _+_, _-_, _*_, _/_, _≤_}
+use lib.Dec.{leb}
+use lib.ListN.{getD, length}
+use lib.Seq.{sets}
 use Rattle.graph.specs.Editing.{Change, add-by-place, add-by-privileges, remove-role, grant, withdraw, add-edge, remove-edge}
 use Rattle.graph.specs.Refusing.{Check, refuse-lowest, input-checks, state-checks, still-below, closed-checks}
 use Rattle.seats.specs.Seats.{State, seat-count, pair-seat}
-use Rattle.seats.specs.Calls.{seat-checks}
+use Rattle.seats.specs.Calls.{Answer, seat-checks}
 use Rattle.seats.specs.Records.{record-length, Fields}
-use Rattle.seats.specs.Tape.{digits, space, line-feed}
+use Rattle.seats.specs.Tape.{records, digits, space, line-feed, line, fed}
+use Rattle.seats.specs.Written.{Written}
+use Rattle.seats.specs.Reading.{read-state}
+use Rattle.seats.specs.declared.text.Lines.{Lines}
+use Rattle.seats.specs.declared.running.Ran.{Ran}
 
 -- The little-endian number of the four bytes at place i, written out.
 abbrev pub quad-of : List ℕ → ℕ → ℕ
@@ -38,3 +46,25 @@ after-checks h c = (still-below (h .graph) c ++ closed-checks (h .graph)) ++ (re
 -- Two numbers, each behind a space, and a line feed.
 abbrev pub tail-of : ℕ → ℕ → List ℕ
 tail-of x y = space ∷ (digits x ++ (space ∷ (digits y ++ (line-feed ∷ []))))
+
+-- The longest line: an index of 20 digits, a number and a place of 3 digits each, two spaces and a line feed.
+abbrev pub longest-line : ℕ
+longest-line = 29
+
+-- How many bytes the line of an index and two numbers has.
+abbrev pub line-length : ℕ → ℕ → ℕ → ℕ
+line-length i x y = length (digits i) + length (digits x) + length (digits y) + 3
+
+-- The lines r are the lines b with that of the next record, whose answer is a: it is written behind them where the buffer has room for it.
+pub record Lined (buffer : List ℕ) (b : Lines) (a : Answer) (after : List ℕ) (r : Lines) : Type 0 where
+  pub counted : r .index ≡ b .index + 1
+  pub longer : r .length ≡ b .length + length (line (r .index) a)
+  pub bounded : r .length ≤ b .length + longest-line
+  pub put : after ≡ cond (leb (r .length) (length buffer)) (sets buffer (b .length) (line (r .index) a)) buffer
+
+-- What running a part of a tape after count records and from the state s gives: what the part comes to, how long its lines are, and the lines at the buffer's front where it has room for them all.
+pub record PartRun (s : State) (count : ℕ) (part buffer : List ℕ) (r : Ran) (after : List ℕ) : Type 0 where
+  pub comes-to : (r .lines .index, read-state (r .state)) ≡ fed s count part .1
+  pub long : r .lines .length ≡ length (fed s count part .0)
+  pub bounded : r .lines .length ≤ longest-line * length (records part)
+  pub put : r .lines .length ≤ length buffer → Written buffer 0 (fed s count part .0) after (r .lines .length)

@@ -7,7 +7,7 @@ pub mod lent;
 pub mod loading;
 pub mod reader;
 pub mod records;
-pub mod running;
+mod running;
 pub mod saving;
 mod searches;
 pub mod seating;
@@ -136,9 +136,16 @@ pub enum Filled {
     TooShort(Refusal),
 }
 
-// What feeding a part of a tape gives: what filling the buffer answers, the records so far, and the state after them.
+// What feeding a part of a tape answers: the length of its lines, a refusal, or that 64 bits do not hold the records so far.
+pub enum PartAnswer {
+    Written(usize),
+    TooShort(Refusal),
+    Uncounted,
+}
+
+// What feeding a part of a tape gives: its answer, the records so far, and the state after them.
 pub struct Fed {
-    pub filled: Filled,
+    pub answer: PartAnswer,
     pub count: u64,
     pub state: State,
 }

@@ -1,30 +1,36 @@
-// One turn of a tape: the record at a place, given to a call on a state.
-ghost use mathlib.Core.Path.{_≡_};
-ghost use Rattle.seats.specs.Promises.{StepPromise};
-ghost use Rattle.seats.specs.Places.{record-at, record-end};
-use crate::Answer;
+// A part of a tape: one reader of it, and one state that is lent to the call of each record.
+ghost use Prim.Native.Nat.{_+_, _^_, _<_};
+ghost use lib.ListN.{length};
+ghost use Rattle.seats.specs.Tape.{records};
+ghost use Rattle.seats.specs.Reading.{read-state};
+ghost use Rattle.seats.specs.Working.{PartRun};
 use crate::State;
 use crate::lent;
 use crate::reader::TapeReader;
+use crate::text;
+use crate::text::Lines;
 
-// What the record at a place comes to: its answer, the state after it, and the place of the next record.
-pub struct Turned {
-    pub answer: Answer,
+// What a part of a tape comes to: its lines, and the state after it.
+pub struct Ran {
+    pub lines: Lines,
     pub state: State,
-    pub at: usize,
 }
 
-// The record at the place, given to a call on the state.
-pub fn turn(state: State, tape: &[u8], at: usize) -> Turned
-    ensures { λ r. ⌜ StepPromise state (record-at (now (tape .entry)) at) (r .answer) (r .state) × (r .at ≡ record-end (now (tape .entry)) at) ⌝ }
+// The records of a part of a tape, one after another, on one state; a line that has no room is not written.
+pub(crate) fn run(state: State, count: u64, part: &[u8], buffer: &mut [u8]) -> Ran
+    requires { ⌜ count + length (records (now part)) < 2 ^ 64 ⌝ }
+    ensures { λ r. ⌜ PartRun (read-state state) count (now (part .entry)) (now (buffer .entry)) r (now (buffer .exit)) ⌝ }
 {
     let mut state = state;
-    let reader = TapeReader { tape, at };
-    let answer = lent::call(&mut state, reader.next());
-    let next = reader.moved();
-    Turned {
-        answer,
-        state,
-        at: next.at,
+    let mut lines = Lines {
+        index: count,
+        length: 0,
+    };
+    let mut reader = TapeReader::new(part);
+    while !reader.ended() {
+        let answer = lent::call(&mut state, reader.next());
+        reader = reader.moved();
+        lines = text::next_line(buffer, lines, answer);
     }
+    Ran { lines, state }
 }

@@ -1,11 +1,12 @@
 // The lines of a tape as text, written into a lent buffer.
 ghost use mathlib.Core.Path.{_≡_};
-ghost use Prim.Native.Nat.{_+_, _≤_, _<_};
+ghost use Prim.Native.Nat.{_+_, _^_, _≤_, _<_};
+ghost use lib.Dec.{leb};
 ghost use lib.ListN.{length};
 ghost use Rattle.seats.specs.Bytes.{fill};
-ghost use Rattle.seats.specs.Tape.{digits, line, end-line, longest-line};
+ghost use Rattle.seats.specs.Tape.{digits, end-line};
 ghost use Rattle.seats.specs.Reading.{read-answer, read-filled};
-ghost use Rattle.seats.specs.Working.{tail-of};
+ghost use Rattle.seats.specs.Working.{tail-of, longest-line, line-length, Lined};
 ghost use Rattle.seats.specs.Written.{Written};
 use crate::Answer;
 use crate::Filled;
@@ -16,6 +17,15 @@ use crate::writing::digit_count;
 use crate::writing::put_byte;
 use crate::writing::put_digits;
 use crate::writing::too_short;
+
+// How many bytes the longest line has.
+pub const LINE: usize = 29;
+
+// Lines of a tape: the index of the last, and how many bytes they have.
+pub struct Lines {
+    pub index: u64,
+    pub length: usize,
+}
 
 // A space and a number, twice, and a line feed at place i of the buffer; the next place.
 fn tail(buffer: &mut [u8], i: usize, x: u64, y: u64) -> usize
@@ -29,15 +39,40 @@ fn tail(buffer: &mut [u8], i: usize, x: u64, y: u64) -> usize
     put_byte(buffer, d, b'\n')
 }
 
-// A record's line at place i of the buffer, where the longest line has room; the next place.
-pub(crate) fn put_line(buffer: &mut [u8], i: usize, index: u64, answer: Answer) -> usize
-    requires { ⌜ i + longest-line ≤ length (now buffer) ⌝ }
-    ensures { λ j. ⌜ (Written (now (buffer .entry)) i (line index (read-answer answer)) (now (buffer .exit)) j) × (j ≤ i + longest-line) ⌝ }
+// How many bytes the line of an index and two numbers has.
+fn line_length(index: u64, x: u64, y: u64) -> usize
+    ensures { λ r. ⌜ r ≡ line-length index x y ⌝ }
+{
+    digit_count(index) + digit_count(x) + digit_count(y) + 3
+}
+
+// Whether the line of an index and two bytes has room from place i on; where the longest line has, its length is not worked out.
+fn has_room(room: usize, i: usize, index: u64, x: u64, y: u64) -> bool
+    requires { ⌜ (i + longest-line < 2 ^ 64) × ((x < 256) × (y < 256)) ⌝ }
+    ensures { λ r. ⌜ r ≡ leb (i + line-length index x y) room ⌝ }
+{
+    if i + LINE <= room {
+        return true;
+    }
+    i + line_length(index, x, y) <= room
+}
+
+// The lines with that of the next record, which is put behind them where the buffer has room for it.
+pub(crate) fn next_line(buffer: &mut [u8], lines: Lines, answer: Answer) -> Lines
+    requires { ⌜ (lines .index + 1 < 2 ^ 64) × (lines .length + longest-line < 2 ^ 64) ⌝ }
+    ensures { λ r. ⌜ Lined (now (buffer .entry)) lines (read-answer answer) (now (buffer .exit)) r ⌝ }
 {
     let n = wide(number_of(answer));
     let p = wide(place_of(answer));
+    let index = lines.index + 1;
+    let i = lines.length;
+    if !has_room(buffer.len(), i, index, n, p) {
+        let length = i + line_length(index, n, p);
+        return Lines { index, length };
+    }
     let j = put_digits(buffer, i, index);
-    tail(buffer, j, n, p)
+    let length = tail(buffer, j, n, p);
+    Lines { index, length }
 }
 
 // The last line at the front of the buffer, or refusal 9 where the buffer is shorter.

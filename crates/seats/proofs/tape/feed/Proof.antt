@@ -1,46 +1,62 @@
--- `tape::feed` meets its contract: the part is refused where its records cannot be fed, and otherwise run.
+-- `tape::feed` meets its contract: a part whose records cannot be counted or whose lines have no room is refused, and any other run.
 -- Assumes nothing.
 use borrow.Author.Needs.{needs}
 use borrow.Author.Tests.{not-true, not-false}
-use mathlib.Core.Path.{_∙_}
-use Rattle.seats.specs.Reading.{read-state}
-use Rattle.seats.proofs.Feeding.{feed-refused, feed-bounds, feed-run}
+use Prim.Native.Nat.{_+_, _^_, _<_}
+use native.Mathlib.Omega.{arith}
+use lib.ListN.{length}
+use Rattle.seats.specs.Tape.{records}
+use Rattle.seats.specs.Reading.{read-state, read-part}
+use Rattle.seats.proofs.TapeRecords.{count-records}
+use Rattle.seats.proofs.Feeding.{feed-uncounted, feed-refused, feed-run, test-fails, test-holds}
 use Rattle.seats.proofs.tape.feed.Statement.{statement}
 use Rattle.seats.proofs.tape.feed.Tie as tie
 
+sub-if1 : tie.Need-sub-if1
+sub-if1 c = search needs
+
 returns : tie.Need-returns
+unfolding read-part
 returns c =
-    let a = c .before in
-    let s = a .before .before .before .before .before .args in
-    rw (c .too-short .ensures)
-    (feed-refused (read-state (s .state)) (s .count) (s .part .now) (s .buffer .now)
-    (a .before .can-feed .ensures)
-    (a .before .before .record-count .ensures)
-    (not-true _ (a .if1 .taken)))
+    let s = c .before .before .before .before .args in
+    let n = c .before .record-count .ensures in
+    let k = count-records (s .part .now) in
+    feed-uncounted (read-state (s .state)) (s .count) (s .part .now) (s .buffer .now) (omega arith)
+
+-- The records are counted.
+counted : (e : tie.Else1) → let s = e .before .before .before .before .args in s .count + length (records (s .part .now)) < 2 ^ 64
+counted e =
+    let s = e .before .before .before .before .args in
+    let n = e .before .record-count .ensures in
+    let k = count-records (s .part .now) in
+    omega arith
+
+can-feed-requires : tie.Need-can-feed-requires
+can-feed-requires c κs = counted c
+
+returns-2 : tie.Need-returns-2
+unfolding read-part
+returns-2 c =
+    let f = c .before in
+    let s = f .before .before .before .before .before .args in
+    feed-refused (read-state (s .state)) (s .count) (s .part .now) (s .buffer .now) (counted (f .before))
+    (test-fails (read-state (s .state)) (s .count) (s .part .now) (s .buffer .now) _ (f .can-feed .ensures) (not-true _ (c .if2 .taken)))
 
 run-requires : tie.Need-run-requires
-run-requires c κs =
-    let a = c .before in
-    let s = a .before .before .before .before .before .args in
-    feed-bounds (read-state (s .state)) (s .count) (s .part .now) (s .buffer .now)
-    (a .before .can-feed .ensures)
-    (a .before .before .record-count .ensures)
-    (not-false _ (a .if1 .left))
+run-requires c κs = counted (c .before .before .before)
 
 same-length : tie.Need-same-length
 same-length c = search needs
 
-returns-2 : tie.Need-returns-2
-returns-2 c =
-    let a = c .before .before .before .before in
-    let s = a .before .before .before .before .before .args in
-    c .before .before .run .ensures
-    ∙ feed-run (read-state (s .state)) (s .count) (s .part .now) (s .buffer .now)
-    (a .before .can-feed .ensures)
-    (a .before .before .record-count .ensures)
-    (not-false _ (a .if1 .left))
+returns-3 : tie.Need-returns-3
+unfolding read-part
+returns-3 c =
+    let r = c .before .before .before .before in
+    let e = r .before .before in
+    let f = e .before in
+    let s = f .before .before .before .before .before .args in
+    feed-run (read-state (s .state)) (s .count) (s .part .now) (s .buffer .now) (counted (f .before)) (r .run .ensures)
+    (test-holds (read-state (s .state)) (s .count) (s .part .now) (s .buffer .now) _ (f .can-feed .ensures) (not-false _ (e .if2 .left)) (r .run .ensures))
 
 pub feed-spec : {M : Type 1} → statement M
-feed-spec =
-    tie.close
-    (tie.spec (λ c κs. tt) (λ c κs. tt) (λ c κs. tt) returns run-requires same-length returns-2)
+feed-spec = tie.close (tie.spec sub-if1 (λ c κs. tt) returns can-feed-requires returns-2 run-requires same-length returns-3)
