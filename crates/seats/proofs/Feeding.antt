@@ -111,6 +111,7 @@ module _ (l₀ : List ℕ) (count : ℕ) (part : List ℕ) (s₀ : State) where
       }
 
 -- ---- whether a part is fed
+-- What feeding gives: its answer with the buffer, and the records so far with the state.
 abbrev Result : Type 0
 Result = (PartAnswer × List ℕ) × (ℕ × State)
 

@@ -110,6 +110,7 @@ use Rattle.seats.proofs.running.run.Code.Mir as body
 abbrev stayed : Stays (ran.ended .signature .params) (ran.ended .kept)
 stayed = (stay-none (λ _. K.the-row) yes, (stay-none (λ _. u64) yes, (stay-none-slice (0 ∷ []) tt (plain (λ _. u8)) yes, (stay-slice (1 ∷ []) tt (plain (λ _. u8)), tt))))
 
+-- a bool is one or the other
 by-bool : {G : Type 1} (b : Bool) → (b ≡ true → G) → (b ≡ false → G) → G
 by-bool true f g = f refl
 by-bool false f g = g refl
