@@ -8,6 +8,28 @@ use lib.Dec.{T}
 use lib.ListN.{length}
 use Rattle.lists.specs.Runs.{run, unrefused, trace, trace-in, Each, Chain, done, link}
 
+module _ {A B : Type 0} (refused : A → Bool) (told : B → A) where
+  -- What is refused by the answers as they are told is refused by the told answers.
+  unrefused-told : {X : Type 0} (l : List X) (m : List B) → unrefused (λ (b : B). refused (told b)) l m ≡ unrefused refused l (map told m)
+  unfolding unrefused
+  unrefused-told [] m = refl
+  unrefused-told (x ∷ l) [] = refl
+  unrefused-told {X} (x ∷ l) (b ∷ m) = ap (λ (k : List X). cond (refused (told b)) k (x ∷ k)) (unrefused-told l m)
+
+  -- The told answers of those that are left are those left of the told answers.
+  map-unrefused : (l m : List B) → map told (unrefused (λ (b : B). refused (told b)) l m) ≡ unrefused refused (map told l) (map told m)
+  unfolding unrefused
+  map-unrefused [] m = refl
+  map-unrefused (x ∷ l) [] = refl
+  map-unrefused (x ∷ l) (b ∷ m) = go (refused (told b)) (map-unrefused l m)
+    where
+      rest : List B
+      rest = unrefused (λ (b : B). refused (told b)) l m
+
+      go : (t : Bool) {k : List A} → map told rest ≡ k → map told (cond t rest (x ∷ rest)) ≡ cond t k (told x ∷ k)
+      go true e = e
+      go false e = ap (λ (k : List A). told x ∷ k) e
+
 module _ {S R A : Type 0} (step : S → R → A × S) where
   -- What every step keeps holds at the end.
   pub run-keeps : (Ok : R → Type 0) (I : S → Type 0) → ((s : S) (r : R) → Ok r → I s → I (step s r .1))
@@ -60,6 +82,19 @@ module _ {S R A : Type 0} (step : S → R → A × S) where
         go : (b : Bool) → refused (step s r .0) ≡ b → run step (step s r .1) l′ ≡ (m′, end) → run step s (cond b l′ (r ∷ l′)) ≡ (cond b m′ (step s r .0 ∷ m′), end)
         go true e same = ap (λ (z : S). run step z l′) (sym (kept s r (subst T (sym e) tt))) ∙ same
         go false e same = ap (λ (p : List A × S). (step s r .0 ∷ p .0, p .1)) same
+
+    -- A chain over the records that another did not refuse, from the same start, gives them the answers they had and ends alike.
+    pub chain-unrefused : {C B : Type 0} (read : C → S) (told : B → A) (P : C → R → B → C → Type 0)
+        → ((c : C) (r : R) (b : B) (d : C) → P c r b d → step (read c) r ≡ (told b, read d))
+        → {c d e : C} {l : List R} {m k : List B} → Chain P c l m d → Chain P c (unrefused (λ (b : B). refused (told b)) l m) k e
+        → (map told k ≡ map told (unrefused (λ (b : B). refused (told b)) m m)) × (read e ≡ read d)
+    chain-unrefused {C} {B} read told P meets {c} {d} {e} {l} {m} {k} chain shorter =
+        let x = chain-runs read told P meets chain in
+        let y = sym (chain-runs read told P meets shorter) ∙ ap (run step (read c)) (unrefused-told refused told l m) in
+        let z = y ∙ ap (λ (q : List A × S). run step (read c) (unrefused refused l (q .0))) (sym x) ∙ run-unrefused (read c) l ∙ ap (λ (q : List A × S). (unrefused refused (q .0) (q .0), q .1)) x in (
+          ap (λ (q : List A × S). q .0) z ∙ sym (map-unrefused refused told m m),
+          ap (λ (q : List A × S). q .1) z,
+        )
 
     -- What a part of the state is at the end, by the records that were not refused.
     pub run-trace : {B : Type 0} (part : S → B) (change : R → B → B) (Ok : R → Type 0) (I : S → Type 0)

@@ -90,7 +90,7 @@ unfolding ordinary effective
 distinct-with g C d = record { non-empty = d .non-empty; different = d .different }
 
 -- A pair that a set holds after declaring is a former one, or that of a and b.
-new-pair : {C : List ℕ} → Paired privilege-count C → (a b : ℕ) → a < privilege-count → b < privilege-count → a ≢ b → (x : ℕ)
+pub new-pair : {C : List ℕ} → Paired privilege-count C → (a b : ℕ) → a < privilege-count → b < privilege-count → a ≢ b → (x : ℕ)
     → T (holds-pair (conflicts.declare C a b) x) → T (holds-pair C x) ⊎ T (holds-both a b x)
 unfolding holds-both
 new-pair {C} w a b ka kb d x t =

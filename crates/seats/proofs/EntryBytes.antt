@@ -43,7 +43,7 @@ unfolding entries-at
 entries-lt n i zero l h = tt
 entries-lt n i (suc c) l h = (number-lt n (suc i) l h, entries-lt n (suc i + n) c l h)
 
-entries-drop : (n i j c : ℕ) (l : List ℕ) → entries-at n j c (drop i l) ≡ entries-at n (i + j) c l
+pub entries-drop : (n i j c : ℕ) (l : List ℕ) → entries-at n j c (drop i l) ≡ entries-at n (i + j) c l
 unfolding entries-at
 entries-drop n i j zero l = refl
 entries-drop n i j (suc c) l =

@@ -16,7 +16,7 @@ use Rattle.seats.specs.declared.Answer.{Answer}
 use Rattle.seats.proofs.ListTheorem.{list-theorem}
 
 -- A load that is accepted gives the state that the bytes hold.
-accepted-load : (s t : seats.State) (bytes : List ℕ) → (accepted, t) ≡ load-over s bytes → load bytes ≡ loaded t
+pub accepted-load : (s t : seats.State) (bytes : List ℕ) → (accepted, t) ≡ load-over s bytes → load bytes ≡ loaded t
 unfolding load-over settle-load
 accepted-load s t bytes e = go (load bytes) e
   where

@@ -15,6 +15,11 @@ pub mod LoadInvariant
 pub mod History
 pub mod ListTheorem
 pub mod KeeperTheorem
+-- ---- the three demands
+pub mod FirstChecks
+pub mod RecordVerdict
+pub mod WholeChecks
+pub mod Demands
 -- ---- bytes
 pub mod Numbers
 pub mod ShortNumbers
@@ -27,9 +32,11 @@ pub mod StoredEntries
 pub mod StoredPairs
 pub mod ImageLength
 pub mod ImageReading
+pub mod ImageAlone
 pub mod EntryReading
 pub mod LoadFacts
 pub mod LoadRefusals
+pub mod LoadVerdict
 pub mod LoadChecks
 pub mod MemberEntries
 pub mod SaveParts

@@ -15,4 +15,5 @@ pub mod Invariants
 pub mod ListTheorem
 pub mod Asks
 pub mod Promises
+pub mod Demands
 pub mod Computes

@@ -1,4 +1,4 @@
--- Demand 3 on the code: what the operations promise of one record and of one load, and the list theorem for every chain of such promises.
+-- What the operations promise of one record, one load, one save and one part of a tape; and demand 3 on the code, the list theorem for every chain of the step's promises.
 use mathlib.Core.Path.{_≡_}
 use mathlib.Core.List.{List, map}
 use Prim.Native.Nat.{ℕ}
@@ -6,14 +6,19 @@ use Rattle.lists.specs.Runs.{Each, Chain}
 use Rattle.graph.specs.Drawing.{edge}
 use Rattle.seats.specs.Bytes.{Bytes}
 use Rattle.seats.specs.Seats.{fresh}
+use Rattle.seats.specs.Seats as seats
 use Rattle.seats.specs.Calls.{accepted}
 use Rattle.seats.specs.Records.{step}
 use Rattle.seats.specs.Images.{load-over}
+use Rattle.seats.specs.Saving.{save}
+use Rattle.seats.specs.Tape.{feed}
 use Rattle.seats.specs.Lists.{answers, end}
 use Rattle.seats.specs.ListTheorem.{ListTheorem}
-use Rattle.seats.specs.Reading.{read-state, read-answer}
+use Rattle.seats.specs.Reading.{read-state, read-answer, read-filled, read-fed}
 use Rattle.seats.specs.declared.State.{State}
 use Rattle.seats.specs.declared.Answer.{Answer}
+use Rattle.seats.specs.declared.Filled.{Filled}
+use Rattle.seats.specs.declared.Fed.{Fed}
 
 -- A state is fresh.
 abbrev pub FreshPromise : State → Type 0
@@ -26,6 +31,14 @@ StepPromise s l a t = (read-answer a, read-state t) ≡ step (read-state s) l
 -- By the bytes l, with the state s at hand, loading gives the answer a and the state t.
 abbrev pub LoadPromise : State → List ℕ → Answer → State → Type 0
 LoadPromise s l a t = (read-answer a, read-state t) ≡ load-over (read-state s) l
+
+-- Saving the state s into the buffer gives the answer f and leaves the buffer as `after`.
+abbrev pub SavePromise : seats.State → List ℕ → Filled → List ℕ → Type 0
+SavePromise s buffer f after = (read-filled f, after) ≡ save s buffer
+
+-- By the part of a tape, after so many records and from the state s, feeding gives f and leaves the buffer as `after`.
+abbrev pub FeedPromise : State → ℕ → List ℕ → List ℕ → Fed → List ℕ → Type 0
+FeedPromise s count part buffer f after = read-fed f after ≡ feed (read-state s) count part buffer
 
 -- A keeper starts with a fresh state, or with the state that an accepted load gives, whatever was at hand.
 pub data KeeperStart : State → Type 0 where

@@ -1,0 +1,52 @@
+-- A load is judged by one list of checks, 6 before 7 before 8: it is refused by the first that holds, or gives the state that the image's entries describe.
+-- Assumes nothing.
+use mathlib.Core.Path.{_≡_, refl, ap, _∙_}
+use mathlib.Core.Bool.{Bool, true, false, cond, not, _&&_}
+use mathlib.Core.List.{List, _++_}
+use Prim.Native.Nat.{ℕ}
+use native.Mathlib.Omega.{arith}
+use lib.ListN.{length}
+use lib.Dec.{not-T, eqb, leb, ltb, leb→le, ltb→lt, nltb→le, le→leb}
+use Rattle.sets.proofs.Tests.{same-test}
+use Rattle.graph.specs.Refusing.{Verdict, passed, verdict}
+use Rattle.graph.specs.Refusing as refusing
+use Rattle.lists.specs.Settling as settling
+use Rattle.seats.specs.Seats.{State}
+use Rattle.seats.specs.Calls.{accepted, judged, settle}
+use Rattle.seats.specs.Images.{least-image, distance, far-at, counts-at, restored, entry-checks, content-checks, not-loaded, unless-refused, load-contents, load-trailer, load, settle-load, load-over}
+use Rattle.seats.specs.Demands.{contents-in, load-checks}
+
+-- At most is not above.
+not-above : (m n : ℕ) → leb m n ≡ not (ltb n m)
+not-above m n =
+    same-test (leb m n) (not (ltb n m)) (λ t. not-T (ltb n m) (λ u. let a = leb→le m n t in let b = ltb→lt n m u in omega arith)) (λ t. le→leb m n (nltb→le n m t))
+
+load-judged : (l : List ℕ) → load l ≡ unless-refused (verdict (load-checks l)) (restored (contents-in l))
+unfolding load load-trailer load-contents load-checks verdict unless-refused
+load-judged l =
+    let end = length l in
+    let far = far-at l end in
+    rw (not-above far end) (go (ltb end least-image) (eqb far (distance (counts-at l end))) (ltb end far))
+  where
+    s : State
+    s = restored (contents-in l)
+
+    v : Verdict
+    v = verdict (entry-checks (contents-in l) ++ content-checks s)
+
+    go : (short same beyond : Bool) → cond short (not-loaded 6 0) (cond (same && not beyond) (unless-refused v s) (not-loaded 6 0))
+        ≡ unless-refused (cond short (refusing.refused 6 0) (cond (not same) (refusing.refused 6 0) (cond beyond (refusing.refused 6 0) v))) s
+    go true same beyond = refl
+    go false true true = refl
+    go false true false = refl
+    go false false beyond = refl
+
+settled-load : (s h : State) (v : Verdict) → settle-load s (unless-refused v h) ≡ settle v accepted s h
+unfolding settle-load unless-refused settle judged settling.settle
+settled-load s h passed = refl
+settled-load s h (refusing.refused n p) = refl
+
+-- Loading with a state at hand is settled by that list, as a call is by its own.
+pub load-settles : (s : State) (l : List ℕ) → load-over s l ≡ settle (verdict (load-checks l)) accepted s (restored (contents-in l))
+unfolding load-over
+load-settles s l = ap (settle-load s) (load-judged l) ∙ settled-load s (restored (contents-in l)) (verdict (load-checks l))
