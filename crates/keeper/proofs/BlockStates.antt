@@ -60,6 +60,14 @@ holding-length s W z l =
     let c = z .seats in
     simp (length-append, length-drop) (omega arith)
 
+holding-behind : (s : State) (W : List ℕ) → Sized s → drop block-length (holding s W) ≡ drop block-length W
+unfolding holding words-of
+holding-behind s W z =
+    let a = z .sets in
+    let b = z .conflicts in
+    let c = z .seats in
+    drop-at (words-of s) (drop block-length W) block-length (simp length-append (omega arith))
+
 -- The state of a block is sized.
 pub block-sized : (W : List ℕ) → block-length ≤ length W → Sized (state-in W)
 unfolding sets-in
@@ -123,15 +131,35 @@ unfolding settle-load
 settled-sized s z (sized p) = p
 settled-sized s z none = z
 
+load-sized : (s : State) (l : List ℕ) → Sized s → Sized (load-over s l .1)
+unfolding load-over
+load-sized s l z = settled-sized s z (load-cases SizedLoad none contents-sized l)
+
 -- The block after a load holds the state after it.
 pub load-holds : (W l : List ℕ) → block-length ≤ length W → state-in (load-block W l .1) ≡ load-over (state-in W) l .1
-unfolding load-block of-state given load-over
-load-holds W l n = rw (le-leb block-length (length W) n) (state-held (load-over (state-in W) l .1) W (settled-sized (state-in W) (block-sized W n) (load-cases SizedLoad none contents-sized l)))
+unfolding load-block of-state given
+load-holds W l n = rw (le-leb block-length (length W) n) (state-held (load-over (state-in W) l .1) W (load-sized (state-in W) l (block-sized W n)))
+
+pub load-length : (W l : List ℕ) → block-length ≤ length W → length (load-block W l .1) ≡ length W
+unfolding load-block of-state given
+load-length W l n = rw (le-leb block-length (length W) n) (holding-length (load-over (state-in W) l .1) W (load-sized (state-in W) l (block-sized W n)) n)
+
+pub load-code : (W l : List ℕ) → block-length ≤ length W → load-block W l .0 ≡ code-of (load-over (state-in W) l .0)
+unfolding load-block of-state given
+load-code W l n = rw (le-leb block-length (length W) n)
+
+fresh-sized : Sized fresh
+unfolding fresh graph.fresh
+fresh-sized = record { sets = refl; conflicts = refl; seats = refl }
 
 -- A block made fresh holds the fresh state.
 pub fresh-holds : (W : List ℕ) → block-length ≤ length W → state-in (fresh-block W .1) ≡ fresh
-unfolding fresh-block of-state given fresh graph.fresh
-fresh-holds W n = rw (le-leb block-length (length W) n) (state-held fresh W (record { sets = refl; conflicts = refl; seats = refl }))
+unfolding fresh-block of-state given
+fresh-holds W n = rw (le-leb block-length (length W) n) (state-held fresh W fresh-sized)
+
+pub fresh-length : (W : List ℕ) → block-length ≤ length W → length (fresh-block W .1) ≡ length W
+unfolding fresh-block of-state given
+fresh-length W n = rw (le-leb block-length (length W) n) (holding-length fresh W fresh-sized n)
 
 -- ---- calls
 
@@ -140,9 +168,14 @@ pub call-holds : (W l : List ℕ) → block-length ≤ length W → state-in (ca
 unfolding call-block of-state given
 call-holds W l n = rw (le-leb block-length (length W) n) (state-held (step (state-in W) l .1) W (step-sized (state-in W) l (block-sized W n)))
 
-call-length : (W l : List ℕ) → block-length ≤ length W → length (call-block W l .1) ≡ length W
+pub call-length : (W l : List ℕ) → block-length ≤ length W → length (call-block W l .1) ≡ length W
 unfolding call-block of-state given
 call-length W l n = rw (le-leb block-length (length W) n) (holding-length (step (state-in W) l .1) W (step-sized (state-in W) l (block-sized W n)) n)
+
+-- The words behind the state stay.
+pub call-behind : (W l : List ℕ) → block-length ≤ length W → drop block-length (call-block W l .1) ≡ drop block-length W
+unfolding call-block of-state given
+call-behind W l n = rw (le-leb block-length (length W) n) (holding-behind (step (state-in W) l .1) W (step-sized (state-in W) l (block-sized W n)))
 
 call-code : (W l : List ℕ) → block-length ≤ length W → call-block W l .0 ≡ code-of (step (state-in W) l .0)
 unfolding call-block of-state given

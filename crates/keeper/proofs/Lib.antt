@@ -2,6 +2,7 @@
 pub mod TableCopies
 pub mod BlockWords
 pub mod BlockStates
+pub mod BlockLists
 -- ---- answers as numbers
 pub mod CodedAnswer
 pub mod SaveCode

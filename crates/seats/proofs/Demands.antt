@@ -16,7 +16,7 @@ use Rattle.graph.specs.Refusing.{input-checks, state-checks}
 use Rattle.graph.specs.Reading.{sets-in}
 use Rattle.graph.proofs.Closing.{Laid, closed-equation, closed-unique}
 use Rattle.graph.proofs.Edits.{laid}
-use Rattle.graph.proofs.Refusals.{Passes, parts}
+use Rattle.graph.proofs.Refusals.{Passes, parts, lowest-number}
 use Rattle.seats.specs.Bytes.{Bytes, written, too-short}
 use Rattle.seats.specs.Bytes as bytes
 use Rattle.seats.specs.Seats as seats
@@ -27,7 +27,7 @@ use Rattle.seats.specs.Images.{least-image, image, far-at, restored, Loa
 use Rattle.seats.specs.Saving.{save}
 use Rattle.seats.specs.Lists.{end}
 use Rattle.seats.specs.Promises.{StepPromise, LoadPromise, SavePromise}
-use Rattle.seats.specs.Demands.{One, read-outcome, read-left, refuses, OfLoad, contents-in, load-checks, Reached, ChangedBy, Closes, Says, DemandOne, DemandTwo, DemandThree, Demands}
+use Rattle.seats.specs.Demands.{One, read-outcome, read-left, refuses, OfLoad, contents-in, load-checks, Reached, ChangedBy, Closes, Says, DemandOne, DemandTwo, DemandThreeWithShorter, Demands}
 use Rattle.seats.specs.Invariants.{Invariant}
 use Rattle.seats.specs.Reading.{read-state, read-answer, read-filled}
 use Rattle.seats.specs.declared.State.{State}
@@ -41,11 +41,11 @@ use Rattle.seats.proofs.CallInvariant.{FitsCall}
 use Rattle.seats.proofs.History.{call-ordinary, call-declared, call-assigned}
 use Rattle.seats.proofs.ListTheorem.{list-theorem}
 use Rattle.seats.proofs.KeeperTheorem.{accepted-load, keeper-theorem}
-use Rattle.seats.proofs.FirstChecks.{Settles, settles}
+use Rattle.seats.proofs.FirstChecks.{first-refuses, Settles, settles}
 use Rattle.seats.proofs.RecordVerdict.{record-refused-iff, record-refused, record-accepted-iff, record-lowest, record-accepted, record-passes}
 use Rattle.seats.proofs.WholeChecks.{declare-by-whole, assign-by-whole}
 use Rattle.seats.proofs.LoadRefusals.{load-refusals}
-use Rattle.seats.proofs.LoadVerdict.{load-settles}
+use Rattle.seats.proofs.LoadVerdict.{load-checks-ascend, load-settles}
 use Rattle.seats.proofs.ImageAlone.{far-alone, load-alone, image-far}
 use Rattle.seats.proofs.ImageLength.{image-least}
 use Rattle.seats.proofs.SaveFacts.{save-refused, save-written}
@@ -241,6 +241,8 @@ demand-two = record {
   declare-whole = λ start from l b. declare-by-whole (end start l) (list-theorem start from l b .invariant);
   assign-whole = λ start from l b. assign-by-whole (end start l) (list-theorem start from l b .invariant);
   load-refused-iff = λ s t l a n p e. load-settled s t l a e .refused-iff n p;
+  load-lowest-number = λ s t l a n p e r.
+      lowest-number (load-checks l) n p (load-checks-ascend l) (first-refuses (load-checks l) n p (load-settled s t l a e .refused-iff n p .0 r));
   load-accepted-iff = λ s t l a e.
       let z = load-settled s t l a e in (
         λ r. z .accepted-iff .0 (no-refusal a r),
@@ -266,10 +268,10 @@ demand-two = record {
     left s t l a c e q r = ap (λ (x : calls.Answer × seats.State). x .1) (record-accepted (read-state s) (read-outcome (a, t)) l e c q r)
 
 -- Demand 3.
-pub demand-three : DemandThree
+pub demand-three : DemandThreeWithShorter
 demand-three = record {
   every-chain = keeper-theorem;
-  shorter-chain = λ c d e l m k start b. chain-unrefused step is-refusal refused-leaves read-state read-answer StepPromise (λ s r a t p. sym p);
+  shorter-chain = λ c d e l m k. chain-unrefused step is-refusal refused-leaves read-state read-answer StepPromise (λ s r a t p. sym p);
 }
 
 -- All three.

@@ -10,6 +10,7 @@ use lib.Dec.{not-T, eqb, leb, ltb, leb→le, ltb→lt, nltb→le, le→leb}
 use Rattle.sets.proofs.Tests.{same-test}
 use Rattle.graph.specs.Refusing.{Verdict, passed, verdict}
 use Rattle.graph.specs.Refusing as refusing
+use Rattle.graph.proofs.Refusals.{ascending-numbers, ascending-from}
 use Rattle.lists.specs.Settling as settling
 use Rattle.seats.specs.Seats.{State}
 use Rattle.seats.specs.Calls.{accepted, judged, settle}
@@ -50,3 +51,8 @@ settled-load s h (refusing.refused n p) = refl
 pub load-settles : (s : State) (l : List ℕ) → load-over s l ≡ settle (verdict (load-checks l)) accepted s (restored (contents-in l))
 unfolding load-over
 load-settles s l = ap (settle-load s) (load-judged l) ∙ settled-load s (restored (contents-in l)) (verdict (load-checks l))
+
+-- The checks of a load stand in the order of their numbers.
+pub load-checks-ascend : (l : List ℕ) → ascending-numbers (load-checks l) ≡ true
+unfolding ascending-numbers ascending-from load-checks entry-checks content-checks
+load-checks-ascend l = refl

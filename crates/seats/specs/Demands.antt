@@ -185,6 +185,9 @@ pub record DemandTwo : Type 0 where
       → let s = end start l in verdict (whole-assign s a b) ≡ verdict (checks s (assign a b) (after s (assign a b)))
   -- A load is refused with a number and a place exactly where their condition is the first in the order that holds.
   pub load-refused-iff : (s t : State) (l : List ℕ) (a : Answer) (n p : ℕ) → LoadPromise s l a t → (read-answer a ≡ refused n p) ↔ First (load-checks l) n p
+  -- Here too the order is that of the numbers.
+  pub load-lowest-number : (s t : State) (l : List ℕ) (a : Answer) (n p : ℕ) → LoadPromise s l a t → read-answer a ≡ refused n p
+      → (k : Check) → List·Memᴰ k (load-checks l) → T (k .holds) → n ≤ k .number
   -- It is accepted exactly where none holds, and gives the state that the image's entries describe.
   pub load-accepted-iff : (s t : State) (l : List ℕ) (a : Answer) → LoadPromise s l a t → (read-answer a ≡ accepted) ↔ None (load-checks l)
   pub load-accepted : (s t : State) (l : List ℕ) (a : Answer) → LoadPromise s l a t → read-answer a ≡ accepted → read-state t ≡ restored (contents-in l)
@@ -206,18 +209,17 @@ pub record DemandTwo : Type 0 where
   pub image-alone : (h t u : State) (before l : List ℕ) (a b : Answer) → least-image ≤ length l → far-at l (length l) ≤ length l
       → LoadPromise h (before ++ l) a t → LoadPromise h l b u → (read-answer a ≡ read-answer b) × (read-state t ≡ read-state u)
 
--- ---- demand 3: the list theorem
+-- ---- demand 3: the list theorem, and the shorter list on the keeper's side too
 
-pub record DemandThree : Type 1 where
+pub record DemandThreeWithShorter : Type 1 where
   -- Every chain of the step's promises, from every start, has the list theorem.
   pub every-chain : DemandThreeOnCode
-  -- The list without the records that the keeper refused, taken from the same start, gives the others the answers they had and ends in the same state.
-  pub shorter-chain : (c d e : State) (l : List (List ℕ)) (m k : List Answer) → KeeperStart c → Each Bytes l → Chain StepPromise c l m d
-      → Chain StepPromise c (unrefused refuses l m) k e
+  -- The list without the records that the keeper refused, taken from the same state, gives the others the answers they had and ends in the same state.
+  pub shorter-chain : (c d e : State) (l : List (List ℕ)) (m k : List Answer) → Chain StepPromise c l m d → Chain StepPromise c (unrefused refuses l m) k e
       → (map read-answer k ≡ map read-answer (unrefused refuses m m)) × (read-state e ≡ read-state d)
 
 -- The three together.
 pub record Demands : Type 1 where
   pub one : DemandOne
   pub two : DemandTwo
-  pub three : DemandThree
+  pub three : DemandThreeWithShorter

@@ -1,0 +1,60 @@
+-- The demands on the exported functions: a list of records given one by one to keeper_call on one block, and what a refusal leaves.
+use mathlib.Core.Path.{_≡_}
+use mathlib.Core.Bool.{Bool}
+use mathlib.Core.List.{List, map}
+use Prim.Native.Nat.{ℕ, _≤_}
+use lib.ListN.{length, drop}
+use lib.Dec.{leb}
+use Rattle.lists.specs.Runs.{unrefused, Each, Chain}
+use Rattle.graph.specs.Drawing.{edge}
+use Rattle.seats.specs.Bytes.{Bytes}
+use Rattle.seats.specs.Calls.{is-refusal}
+use Rattle.seats.specs.Lists.{answers, end}
+use Rattle.seats.specs.ListTheorem.{ListTheorem}
+use Rattle.keeper.specs.Block.{block-length, state-in, code-of}
+use Rattle.keeper.specs.Exports.{fresh-block, call-block, load-block}
+
+-- From the block W, keeper_fresh answers r and leaves the block X.
+abbrev pub FreshPromise : List ℕ → ℕ → List ℕ → Type 0
+FreshPromise W r X = (r, X) ≡ fresh-block W
+
+-- By the record l, keeper_call does.
+abbrev pub CallPromise : List ℕ → List ℕ → ℕ → List ℕ → Type 0
+CallPromise W l r X = (r, X) ≡ call-block W l
+
+-- By the bytes l, keeper_load does.
+abbrev pub LoadPromise : List ℕ → List ℕ → ℕ → List ℕ → Type 0
+LoadPromise W l r X = (r, X) ≡ load-block W l
+
+-- A block with words for a state starts with what keeper_fresh leaves, or with what a keeper_load that answers 0 leaves.
+pub data BlockStart : List ℕ → Type 0 where
+  made-fresh : (W X : List ℕ) (r : ℕ) → block-length ≤ length W → FreshPromise W r X → BlockStart X
+  made-by-loading : (W X bytes : List ℕ) (r : ℕ) → block-length ≤ length W → Bytes bytes → LoadPromise W bytes r X → r ≡ 0 → BlockStart X
+
+-- The number of a refusal, or of too few words: no answer of an accepted record has it.
+unfoldable pub refused-code : ℕ → Bool
+refused-code r = leb 256 r
+
+-- What holds where keeper_call takes the records l one by one on the block W, answers m and leaves the block X.
+pub record BlockTheorem (W : List ℕ) (l : List (List ℕ)) (m : List ℕ) (X : List ℕ) : Type 1 where
+  -- The numbers are the codes of the definitions' answers, run alone from the state in the block.
+  pub same-codes : m ≡ map code-of (answers (state-in W) l)
+  -- A number is that of a refusal exactly where the definitions refuse.
+  pub same-refusals : map refused-code m ≡ map is-refusal (answers (state-in W) l)
+  -- The state in the block at the end is theirs, roles, sets, conflicts and seats, and so are its edges.
+  pub same-end : state-in X ≡ end (state-in W) l
+  pub same-edges : (r s : ℕ) → edge (state-in X .graph) r s ≡ edge (end (state-in W) l .graph) r s
+  -- The words behind the state stay.
+  pub same-rest : drop block-length X ≡ drop block-length W
+  -- And all of the list theorem holds of them.
+  pub definitions : ListTheorem (state-in W) l
+
+pub record DemandsOnBlocks : Type 1 where
+  -- A refused record, and a refused load, leaves every word of the block.
+  pub call-refused : (W X l : List ℕ) (r : ℕ) → CallPromise W l r X → 256 ≤ r → X ≡ W
+  pub load-refused : (W X l : List ℕ) (r : ℕ) → LoadPromise W l r X → 256 ≤ r → X ≡ W
+  -- Every chain of keeper_call's promises from every start has the list theorem.
+  pub every-chain : (W X : List ℕ) (l : List (List ℕ)) (m : List ℕ) → BlockStart W → Each Bytes l → Chain CallPromise W l m X → BlockTheorem W l m X
+  -- The list without its refused records, on the same block, gives the others the numbers they had and leaves the same words.
+  pub shorter-chain : (W X Y : List ℕ) (l : List (List ℕ)) (m k : List ℕ) → Chain CallPromise W l m X → Chain CallPromise W (unrefused refused-code l m) k Y
+      → (k ≡ unrefused refused-code m m) × (Y ≡ X)
