@@ -46,7 +46,7 @@ use Rattle.seats.proofs.RecordVerdict.{record-refused-iff, record-refus
 use Rattle.seats.proofs.WholeChecks.{declare-by-whole, assign-by-whole}
 use Rattle.seats.proofs.LoadRefusals.{load-refusals}
 use Rattle.seats.proofs.LoadVerdict.{load-checks-ascend, load-settles}
-use Rattle.seats.proofs.ImageAlone.{far-alone, load-alone, image-far}
+use Rattle.seats.proofs.ImageAlone.{far-alone, load-alone, image-distance}
 use Rattle.seats.proofs.ImageLength.{image-least}
 use Rattle.seats.proofs.SaveFacts.{save-refused, save-written}
 use Rattle.seats.proofs.SavedLoads.{loads-back}
@@ -216,7 +216,7 @@ loaded-saves h s l buffer left a f n b p r e w = elim (saves (read-state s) buff
       let k : n ≡ length I = same-length (sym w ∙ q) in
       let (within, same) = saves-back l b (read-state s) (accepted-load (read-state h) (read-state s) l (ap (λ (x : calls.Answer). (x, read-state s)) (sym r) ∙ p)) in
       let split : take (length l - length I) l ++ I ≡ l = ap (λ (x : List ℕ). take (length l - length I) l ++ x) (sym same) ∙ take-append-drop (length l - length I) l in
-      let far : far-at l (length l) ≡ length I = ap (λ (x : List ℕ). far-at x (length x)) (sym split) ∙ far-alone (take (length l - length I) l) I (image-least (read-state s)) ∙ image-far (read-state s) in
+      let far : far-at l (length l) ≡ length I = ap (λ (x : List ℕ). far-at x (length x)) (sym split) ∙ far-alone (take (length l - length I) l) I (image-least (read-state s)) ∙ image-distance (read-state s) in
       (k ∙ sym far, ap₂ take k m ∙ take-append-seam I _ ∙ sym same ∙ ap (λ (x : ℕ). drop (length l - x) l) (sym k)))
 ]
 

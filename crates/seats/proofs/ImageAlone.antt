@@ -9,7 +9,7 @@ use lib.Seq.{drop-at}
 use borrow.Author.Tests.{le-ltb, le-leb}
 use Rattle.seats.specs.Bytes.{bytes-of, number-at}
 use Rattle.seats.specs.Seats.{State}
-use Rattle.seats.specs.Images.{Contents, contents-of, set-bytes, set-entry, privilege-bytes, privilege-entry, entry-bytes, trailer-length, least-image, Counts, counts-of, distance, trailer, parts, image, entries-at, far-at, counts-at, contents, load-trailer, load}
+use Rattle.seats.specs.Images.{Contents, contents-of, entry-bytes, trailer-length, least-image, Counts, counts-of, distance, trailer, parts, image, entries-at, far-at, counts-at, contents, load-trailer, load}
 use Rattle.seats.proofs.Numbers.{number-drop, number-behind}
 use Rattle.seats.proofs.EntryBytes.{entries-drop}
 use Rattle.seats.proofs.ImageLength.{length-trailer, image-length, image-bound}
@@ -32,13 +32,10 @@ module _ (p l : List ℕ) where
   contents-further : (i : ℕ) (n : Counts) → contents (p ++ l) (length p + i) n ≡ contents l i n
   unfolding contents
   contents-further i n =
-      let t = number-further set-bytes i in
-      let j = i + set-bytes in
-      let k = j + set-entry * n .roles in
-      let m = k + privilege-entry * n .conflicts in
-      let r = entries-further set-bytes j (n .roles) (length p + i + set-bytes) (omega arith) in
-      let c = entries-further privilege-bytes k (n .conflicts) (length p + i + set-bytes + set-entry * n .roles) (omega arith) in
-      let s = entries-further set-bytes m (n .seats) (length p + i + set-bytes + set-entry * n .roles + privilege-entry * n .conflicts) (omega arith) in
+      let t = number-further 8 i in
+      let r = entries-further 8 (i + 8) (n .roles) (length p + i + 8) (omega arith) in
+      let c = entries-further 1 (i + 8 + 9 * n .roles) (n .conflicts) (length p + i + 8 + 9 * n .roles) (omega arith) in
+      let s = entries-further 8 (i + 8 + 9 * n .roles + 2 * n .conflicts) (n .seats) (length p + i + 8 + 9 * n .roles + 2 * n .conflicts) (omega arith) in
       λ d. record { top = t d; roles = r d; conflicts = c d; seats = s d }
 
   module _ (h : trailer-length ≤ length l) where
@@ -78,9 +75,9 @@ unfolding far-at trailer
 trailer-distance n h = ap (λ (k : ℕ). number-at 4 (k - trailer-length) (trailer n)) (length-trailer n) ∙ number-behind 4 (distance n) 0 [] _ refl h
 
 -- The distance in the trailer of a state's image is the image's length.
-pub image-far : (s : State) → far-at (image s) (length (image s)) ≡ length (image s)
+pub image-distance : (s : State) → far-at (image s) (length (image s)) ≡ length (image s)
 unfolding image parts
-image-far s = subst (λ (l : List ℕ). far-at l (length l) ≡ distance n) whole (far-alone front (trailer n) (omega (arith, length-trailer n)) ∙ trailer-distance n (omega (arith, image-bound s, image-length s))) ∙ sym (image-length s)
+image-distance s = subst (λ (l : List ℕ). far-at l (length l) ≡ distance n) whole (far-alone front (trailer n) (omega (arith, length-trailer n)) ∙ trailer-distance n (omega (arith, image-bound s, image-length s))) ∙ sym (image-length s)
   where
     c : Contents
     c = contents-of s
@@ -89,7 +86,7 @@ image-far s = subst (λ (l : List ℕ). far-at l (length l) ≡ distance n) whol
     n = counts-of c
 
     front : List ℕ
-    front = bytes-of set-bytes (c .top) ++ (entry-bytes set-bytes (c .roles) ++ (entry-bytes privilege-bytes (c .conflicts) ++ entry-bytes set-bytes (c .seats)))
+    front = bytes-of 8 (c .top) ++ (entry-bytes 8 (c .roles) ++ (entry-bytes 1 (c .conflicts) ++ entry-bytes 8 (c .seats)))
 
     whole : front ++ trailer n ≡ image s
     whole = simp append-assoc
