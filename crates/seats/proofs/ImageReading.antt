@@ -1,25 +1,21 @@
 -- Reading an image that ends any bytes: the trailer and the contents are what was written.
 -- Assumes nothing.
-use mathlib.Core.Path.{_≡_, refl, sym, ap, _∙_, subst}
+use mathlib.Core.Path.{_≡_, refl, ap, _∙_, subst}
 use mathlib.Core.List.{List, [], _++_, append-assoc}
-use Prim.Native.Nat.{ℕ, _+_, _-_, _*_, _^_, _<_, _≤_}
+use Prim.Native.Nat.{ℕ, _+_, _-_, _*_, _^_, _<_}
 use native.Mathlib.Omega.{arith}
 use lib.ListN.{length, length-append}
-use lib.Seq.{drop-at}
 use borrow.Author.Tests.{le-ltb, le-leb, eq-eqb}
-use Rattle.seats.specs.Bytes.{bytes-of, number-at}
+use Rattle.seats.specs.Bytes.{bytes-of}
 use Rattle.seats.specs.Images.{Entry, Contents, set-bytes, role-set-bytes, privilege-bytes, entry-bytes, trailer-length, least-image, Counts, counts-of, distance, trailer, parts, entries-at, far-at, counts-at, contents, load-contents, load-trailer, load}
 use Rattle.seats.specs.ImageWork.{Small}
-use Rattle.seats.proofs.Numbers.{length-bytes-of, number-drop, number-behind}
+use Rattle.seats.proofs.Numbers.{length-bytes-of, number-behind}
 use Rattle.seats.proofs.EntryBytes.{Each, length-entry-bytes, entries-behind}
 use Rattle.seats.proofs.ImageLength.{length-trailer, length-parts}
+use Rattle.seats.proofs.ImageAlone.{far-alone, counts-alone, trailer-distance}
 
 -- ---- the trailer
--- A trailer is read as the distance and the counts that it was written with.
-trailer-far : (n : Counts) → Small n → far-at (trailer n) trailer-length ≡ distance n
-unfolding far-at trailer bytes-of distance
-trailer-far n h = let (r, s, c) = h in number-behind 4 (distance n) 0 [] _ refl (omega arith)
-
+-- A trailer is read as the counts that it was written with.
 trailer-counts : (n : Counts) → Small n → counts-at (trailer n) trailer-length ≡ n
 unfolding counts-at trailer bytes-of distance
 trailer-counts n h =
@@ -28,25 +24,6 @@ trailer-counts n h =
     let s = number-behind 1 (n .seats) 5 (far ++ bytes-of 1 (n .roles)) _ refl (h .1) in
     let c = number-behind 2 (n .conflicts) 6 (far ++ (bytes-of 1 (n .roles) ++ bytes-of 1 (n .seats))) [] refl (h .2) in
     λ d. record { roles = r d; seats = s d; conflicts = c d }
-
--- Behind other bytes it is read alike.
-module _ (p t : List ℕ) (e : length t ≡ trailer-length) where
-  read-behind : (n k : ℕ) → k ≤ trailer-length → number-at n (length (p ++ t) - k) (p ++ t) ≡ number-at n (trailer-length - k) t
-  read-behind n k l =
-      let q : length (p ++ t) - k ≡ length p + (trailer-length - k) = omega (arith, length-append p t) in
-      ap (λ (i : ℕ). number-at n i (p ++ t)) q ∙ sym (number-drop n (length p) (trailer-length - k) (p ++ t)) ∙ ap (number-at n (trailer-length - k)) (drop-at p t (length p) refl)
-
-  far-behind : far-at (p ++ t) (length (p ++ t)) ≡ far-at t trailer-length
-  unfolding far-at
-  far-behind = read-behind 4 8 (omega arith)
-
-  counts-behind : counts-at (p ++ t) (length (p ++ t)) ≡ counts-at t trailer-length
-  unfolding counts-at
-  counts-behind =
-      let r = read-behind 1 4 (omega arith) in
-      let s = read-behind 1 3 (omega arith) in
-      let c = read-behind 2 2 (omega arith) in
-      λ d. record { roles = r d; seats = s d; conflicts = c d }
 
 -- ---- the contents
 -- Counts and values that fit their widths.
@@ -67,14 +44,16 @@ module _ (before : List ℕ) (c : Contents) (h : Fits c) where
   front-parts = simp append-assoc
 
   parts-far : far-at (before ++ parts c) (length (before ++ parts c)) ≡ distance (counts-of c)
+  unfolding distance
   parts-far =
-      subst (λ (l : List ℕ). far-at l (length l) ≡ distance (counts-of c)) front-parts
-      (far-behind front (trailer (counts-of c)) (length-trailer (counts-of c)) ∙ trailer-far (counts-of c) (h .counts))
+      let n = counts-of c in
+      let (r, s, p) = h .counts in
+      subst (λ (l : List ℕ). far-at l (length l) ≡ distance n) front-parts (far-alone front (trailer n) (omega (arith, length-trailer n)) ∙ trailer-distance n (omega arith))
 
   parts-counts : counts-at (before ++ parts c) (length (before ++ parts c)) ≡ counts-of c
   parts-counts =
       subst (λ (l : List ℕ). counts-at l (length l) ≡ counts-of c) front-parts
-      (counts-behind front (trailer (counts-of c)) (length-trailer (counts-of c)) ∙ trailer-counts (counts-of c) (h .counts))
+      (counts-alone front (trailer (counts-of c)) (omega (arith, length-trailer (counts-of c))) ∙ ap (counts-at (trailer (counts-of c))) (length-trailer (counts-of c)) ∙ trailer-counts (counts-of c) (h .counts))
 
   parts-read : contents (before ++ parts c) (length before) (counts-of c) ≡ c
   unfolding parts contents

@@ -31,8 +31,8 @@ pub mod AscendingEntries
 pub mod StoredEntries
 pub mod StoredPairs
 pub mod ImageLength
-pub mod ImageReading
 pub mod ImageAlone
+pub mod ImageReading
 pub mod EntryReading
 pub mod LoadFacts
 pub mod LoadRefusals
