@@ -1,40 +1,35 @@
 -- The three demands hold.
 -- Assumes nothing.
-use mathlib.Core.Path.{_≡_, refl, sym, ap, ap₂, _∙_, subst}
+use mathlib.Core.Path.{_≡_, refl, sym, ap, _∙_, subst}
 use mathlib.Core.Bool.{false}
 use mathlib.Core.List.{List, [], _++_}
-use Prim.Native.Nat.{ℕ, _-_, _<_, _≤_}
-use native.Mathlib.Decide.{decLt}
+use Prim.Native.Nat.{ℕ, _<_, _≤_}
 use native.Mathlib.Omega.{arith}
-use lib.ListN.{length, take, drop, take-append-drop}
+use lib.ListN.{length, take, drop}
 use lib.Seq.{take-append-seam, drop-append-seam}
 use Rattle.lists.proofs.Runs.{chain-unrefused}
 use Rattle.graph.specs.Graph.{role-count, present, ordinary, effective}
 use Rattle.graph.specs.Drawing.{below, edge, direct, redraw}
 use Rattle.graph.specs.Editing.{Change, edit, changed}
 use Rattle.graph.specs.Refusing.{input-checks, state-checks}
-use Rattle.graph.specs.Reading.{sets-in}
 use Rattle.graph.proofs.Closing.{Laid, closed-equation, closed-unique}
 use Rattle.graph.proofs.Edits.{laid}
 use Rattle.graph.proofs.Refusals.{Passes, parts, lowest-number}
-use Rattle.seats.specs.Bytes.{Bytes, written, too-short}
-use Rattle.seats.specs.Bytes as bytes
+use Rattle.seats.specs.Bytes.{Bytes}
 use Rattle.seats.specs.Seats as seats
-use Rattle.seats.specs.Calls.{Call, change, declare, lift, assign, unassign, ask, accepted, answered, refused, checks, with-graph, with-conflicts, with-seats, after, is-refusal}
+use Rattle.seats.specs.Calls.{Call, change, declare, lift, assign, unassign, ask, accepted, refused, checks, with-graph, with-conflicts, with-seats, after, is-refusal}
 use Rattle.seats.specs.Calls as calls
 use Rattle.seats.specs.Records.{well-formed, decode, step}
 use Rattle.seats.specs.Images.{least-image, image, far-at, restored, Loaded, loaded, not-loaded, load, load-over, settle-load}
 use Rattle.seats.specs.Saving.{save}
 use Rattle.seats.specs.Lists.{end}
-use Rattle.seats.specs.Promises.{StepPromise, LoadPromise, SavePromise}
-use Rattle.seats.specs.Demands.{One, read-outcome, read-left, refuses, OfLoad, contents-in, load-checks, Reached, ChangedBy, Closes, Says, DemandOne, DemandTwo, DemandThreeWithShorter, Demands}
+use Rattle.seats.specs.Tape.{records}
+use Rattle.seats.specs.Promises.{StepPromise, LoadPromise}
+use Rattle.seats.specs.Demands.{read-outcome, refuses, OfLoad, contents-in, load-checks, Reached, ChangedBy, Closes, Says, DemandOne, DemandTwo, DemandThreeWithShorter, Demands}
 use Rattle.seats.specs.Invariants.{Invariant}
 use Rattle.seats.specs.Reading.{read-state, read-answer, read-filled}
 use Rattle.seats.specs.declared.State.{State}
 use Rattle.seats.specs.declared.Answer.{Answer}
-use Rattle.seats.specs.declared.Answer.the-variants as answers
-use Rattle.seats.specs.declared.Filled.{Filled}
-use Rattle.seats.specs.declared.Filled.the-variants as fillings
 use Rattle.seats.proofs.Settling.{refused-leaves}
 use Rattle.seats.proofs.RecordInvariant.{FitsDecoded, decode-fits}
 use Rattle.seats.proofs.CallInvariant.{FitsCall}
@@ -46,63 +41,18 @@ use Rattle.seats.proofs.RecordVerdict.{record-refused-iff, record-refus
 use Rattle.seats.proofs.WholeChecks.{declare-by-whole, assign-by-whole}
 use Rattle.seats.proofs.LoadRefusals.{load-refusals}
 use Rattle.seats.proofs.LoadVerdict.{load-checks-ascend, load-settles}
-use Rattle.seats.proofs.ImageAlone.{far-alone, load-alone, image-distance}
-use Rattle.seats.proofs.ImageLength.{image-least}
-use Rattle.seats.proofs.SaveFacts.{save-refused, save-written}
-use Rattle.seats.proofs.SavedLoads.{loads-back}
-use Rattle.seats.proofs.LoadedSaves.{saves-back}
+use Rattle.seats.proofs.ImageAlone.{load-alone}
+use Rattle.seats.proofs.OneOutcome.{one-outcome, one-left}
+use Rattle.seats.proofs.SaveOutcomes.{no-written, same-short, has-room, no-room, saves, front-loads, front-same}
 
--- ---- answers that differ
+-- Two outcomes that are the same have the same answer and the same state.
+by-part : {z w : calls.Answer × seats.State} → z ≡ w → (z .0 ≡ w .0) × (z .1 ≡ w .1)
+by-part e = (ap (λ (x : calls.Answer × seats.State). x .0) e, ap (λ (x : calls.Answer × seats.State). x .1) e)
+
+-- ---- loads
 no-accepted : {n p : ℕ} → accepted ≡ refused n p → ⊥
 no-accepted e = let z : _≡_ {A = ℕ} 0 1 = cc in omega arith
 
-no-written : {k n p : ℕ} → written k ≡ too-short n p → ⊥
-no-written e = let z : _≡_ {A = ℕ} 0 1 = cc in omega arith
-
-same-short : {m k n p : ℕ} → too-short m k ≡ too-short n p → (m ≡ n) × (k ≡ p)
-same-short e = (cc, cc)
-
-same-length : {m n : ℕ} → written m ≡ written n → m ≡ n
-same-length e = cc
-
--- ---- there is one answer
-
--- What is read as y is there, and whatever reads as y reads alike.
-one : {X Y : Type 0} (read : X → Y) (write : Y → X) → ((y : Y) → read (write y) ≡ y) → (y : Y) → One read (λ x. read x ≡ y)
-one read write back y = record { some = write y; kept = back y; alike = λ x e. e ∙ sym (back y) }
-
--- An answer, a state and what filling answers, as the code holds them.
-write-answer : calls.Answer → Answer
-write-answer accepted = answers.Accepted
-write-answer (answered b) = answers.Answered b
-write-answer (refused n p) = answers.Refused (record { number = n; place = p })
-
-read-written : (a : calls.Answer) → read-answer (write-answer a) ≡ a
-unfolding read-answer write-answer
-read-written accepted = refl
-read-written (answered b) = refl
-read-written (refused n p) = refl
-
-write-state : seats.State → State
-write-state s = record { roles = s .graph .roles; sets = s .graph .sets; conflicts = s .graph .conflicts; seats = s .seats }
-
-write-filled : bytes.Filled → Filled
-write-filled (written n) = fillings.Written n
-write-filled (too-short n p) = fillings.TooShort (record { number = n; place = p })
-
-filled-written : (f : bytes.Filled) → read-filled (write-filled f) ≡ f
-unfolding read-filled write-filled
-filled-written (written n) = refl
-filled-written (too-short n p) = refl
-
-one-outcome : (y : calls.Answer × seats.State) → One read-outcome (λ z. read-outcome z ≡ y)
-unfolding write-state sets-in
-one-outcome y = one read-outcome (λ y. (write-answer (y .0), write-state (y .1))) (λ y. ap (λ (a : calls.Answer). (a, y .1)) (read-written (y .0))) y
-
-one-left : (y : bytes.Filled × List ℕ) → One read-left (λ z. read-left z ≡ y)
-one-left y = one read-left (λ y. (write-filled (y .0), y .1)) (λ y. ap (λ (f : bytes.Filled). (f, y .1)) (filled-written (y .0))) y
-
--- ---- loads and saves
 load-settled : (s t : State) (l : List ℕ) (a : Answer) → LoadPromise s l a t → Settles (load-checks l) accepted (read-state s) (restored (contents-in l)) (read-outcome (a, t))
 unfolding is-refusal
 load-settled s t l a e = settles (load-checks l) accepted refl (read-state s) (restored (contents-in l)) (read-outcome (a, t)) (e ∙ load-settles (read-state s) l)
@@ -117,22 +67,11 @@ unfolding load-over settle-load
 load-number s t l a n p e r = go (load l) refl
   where
     go : (x : Loaded) → load l ≡ x → OfLoad n × (p ≡ 0)
-    go (loaded h) q = absurd (no-accepted (sym (ap (λ (z : calls.Answer × seats.State). z .0) (e ∙ ap (settle-load (read-state s)) q)) ∙ r))
-    go (not-loaded m k) q = load-refusals l n p (q ∙ same (sym (ap (λ (z : calls.Answer × seats.State). z .0) (e ∙ ap (settle-load (read-state s)) q)) ∙ r))
+    go (loaded h) q = absurd (no-accepted (sym (by-part (e ∙ ap (settle-load (read-state s)) q) .0) ∙ r))
+    go (not-loaded m k) q = load-refusals l n p (q ∙ same (sym (by-part (e ∙ ap (settle-load (read-state s)) q) .0) ∙ r))
       where
         same : refused m k ≡ refused n p → not-loaded m k ≡ not-loaded n p
         same w = let x : m ≡ n = cc in let y : k ≡ p = cc in rw (x, y)
-
--- The buffer has room for the image, or it has not.
-data Saves (s : seats.State) (buffer left : List ℕ) (f : Filled) : Type 0 where
-  has-room : length (image s) ≤ length buffer → read-filled f ≡ written (length (image s)) → left ≡ image s ++ drop (length (image s)) buffer → Saves s buffer left f
-  no-room : length buffer < length (image s) → read-filled f ≡ too-short 9 0 → left ≡ buffer → Saves s buffer left f
-
-saves : (s : seats.State) (buffer left : List ℕ) (f : Filled) → SavePromise s buffer f left → Saves s buffer left f
-saves s buffer left f e = elim (decLt (length buffer) (length (image s))) [
-  | yes l ↦ (let q = e ∙ save-refused s buffer l in no-room l (ap (λ (z : bytes.Filled × List ℕ). z .0) q) (ap (λ (z : bytes.Filled × List ℕ). z .1) q))
-  | no d ↦ (let k : length (image s) ≤ length buffer = omega (arith, d) in let q = e ∙ save-written s buffer k in has-room k (ap (λ (z : bytes.Filled × List ℕ). z .0) q) (ap (λ (z : bytes.Filled × List ℕ). z .1) q))
-]
 
 -- Demand 1.
 pub demand-one : DemandOne
@@ -144,7 +83,7 @@ demand-one = record {
       let (x, y) = record-refused (read-state s) (read-outcome (a, t)) l e n p r in
       (x, record-refused-iff (read-state s) (read-outcome (a, t)) l e n p .0 r, y);
   load-refused = λ s t l a n p e r. let (x, y) = load-number s t l a n p e r in (x, y, load-settled s t l a e .refused-leaves n p r);
-  save-refused = λ s buffer left f n p e r. elim (saves s buffer left f e) [
+  save-refused = λ s buffer left f n p e r. elim (saves s buffer left (read-filled f) e) [
     | has-room _ q _ ↦ absurd (no-written (sym q ∙ r))
     | no-room _ q w ↦ (let (x, y) = same-short (sym q ∙ r) in (sym x, sym y, w))
   ];
@@ -195,31 +134,6 @@ change-laid s l c v b q t =
     let (y, _) = parts (state-checks (s .graph) c) _ u in
     laid (s .graph) (v .graph .formed) c (subst FitsDecoded q (decode-fits l b)) x y
 
--- ---- round trips
-saved-loads : (s h t : State) (buffer left before : List ℕ) (f : Filled) (n : ℕ) (a : Answer) → Reached s → SavePromise (read-state s) buffer f left → read-filled f ≡ written n
-    → LoadPromise h (before ++ take n left) a t → (read-answer a ≡ accepted) × (read-state t ≡ read-state s)
-unfolding load-over settle-load
-saved-loads s h t buffer left before f n a r e w p = elim (saves (read-state s) buffer left f e) [
-  | no-room _ q _ ↦ absurd (no-written (sym w ∙ q))
-  | has-room _ q m ↦
-      (let front : take n left ≡ image (read-state s) = ap₂ take (same-length (sym w ∙ q)) m ∙ take-append-seam (image (read-state s)) _ in
-      let z = p ∙ ap (λ (l : List ℕ). settle-load (read-state h) (load (before ++ l))) front ∙ ap (settle-load (read-state h)) (loads-back (read-state s) (reached-keeps s r) before) in
-      (ap (λ (x : calls.Answer × seats.State). x .0) z, ap (λ (x : calls.Answer × seats.State). x .1) z))
-]
-
-loaded-saves : (h s : State) (l buffer left : List ℕ) (a : Answer) (f : Filled) (n : ℕ) → Bytes l → LoadPromise h l a s → read-answer a ≡ accepted
-    → SavePromise (read-state s) buffer f left → read-filled f ≡ written n → (n ≡ far-at l (length l)) × (take n left ≡ drop (length l - n) l)
-loaded-saves h s l buffer left a f n b p r e w = elim (saves (read-state s) buffer left f e) [
-  | no-room _ q _ ↦ absurd (no-written (sym w ∙ q))
-  | has-room _ q m ↦
-      (let I = image (read-state s) in
-      let k : n ≡ length I = same-length (sym w ∙ q) in
-      let (within, same) = saves-back l b (read-state s) (accepted-load (read-state h) (read-state s) l (ap (λ (x : calls.Answer). (x, read-state s)) (sym r) ∙ p)) in
-      let split : take (length l - length I) l ++ I ≡ l = ap (λ (x : List ℕ). take (length l - length I) l ++ x) (sym same) ∙ take-append-drop (length l - length I) l in
-      let far : far-at l (length l) ≡ length I = ap (λ (x : List ℕ). far-at x (length x)) (sym split) ∙ far-alone (take (length l - length I) l) I (image-least (read-state s)) ∙ image-distance (read-state s) in
-      (k ∙ sym far, ap₂ take k m ∙ take-append-seam I _ ∙ sym same ∙ ap (λ (x : ℕ). drop (length l - x) l) (sym k)))
-]
-
 over-alone : (h : seats.State) (before l : List ℕ) → least-image ≤ length l → far-at l (length l) ≤ length l → load-over h (before ++ l) ≡ load-over h l
 unfolding load-over
 over-alone h before l k d = ap (settle-load h) (load-alone before l k d)
@@ -231,7 +145,7 @@ demand-two = record {
   call-refused-iff = λ s t l a n p e. record-refused-iff (read-state s) (read-outcome (a, t)) l e n p;
   lowest-number = λ s t l a n p c e r q. record-lowest (read-state s) (read-outcome (a, t)) l e c q n p r;
   call-accepted-iff = λ s t l a e. record-accepted-iff (read-state s) (read-outcome (a, t)) l e;
-  call-accepted = λ s t l a c e q r. let z = record-accepted (read-state s) (read-outcome (a, t)) l e c q r in (ap (λ (x : calls.Answer × seats.State). x .0) z, ap (λ (x : calls.Answer × seats.State). x .1) z);
+  call-accepted = λ s t l a c e q r. by-part (record-accepted (read-state s) (read-outcome (a, t)) l e c q r);
   change-accepted = λ s t l a c e q r. subst (ChangedBy c (read-state s)) (sym (left s t l a (change c) e q r)) (changed-by (read-state s) c);
   change-closes = λ s t l a c k b e q r.
       let w = change-laid (read-state s) l c (reached-keeps s k) b q (record-passes (read-state s) (read-outcome (a, t)) l e (change c) q r) in
@@ -246,26 +160,27 @@ demand-two = record {
   load-accepted-iff = λ s t l a e.
       let z = load-settled s t l a e in (
         λ r. z .accepted-iff .0 (no-refusal a r),
-        λ x. ap (λ (x : calls.Answer × seats.State). x .0) (z .accepted-gives (z .accepted-iff .1 x)),
+        λ x. by-part (z .accepted-gives (z .accepted-iff .1 x)) .0,
       );
-  load-accepted = λ s t l a e r. ap (λ (x : calls.Answer × seats.State). x .1) (load-settled s t l a e .accepted-gives (no-refusal a r));
-  save-refused-iff = λ s buffer left f n p e. elim (saves s buffer left f e) [
+  load-accepted = λ s t l a e r. by-part (load-settled s t l a e .accepted-gives (no-refusal a r)) .1;
+  save-refused-iff = λ s buffer left f n p e. elim (saves s buffer left (read-filled f) e) [
     | has-room k q _ ↦ (λ r. absurd (no-written (sym q ∙ r)), λ (x, y, l). absurd (omega arith))
     | no-room l q _ ↦ (λ r. let (x, y) = same-short (sym q ∙ r) in (sym x, sym y, l), λ (x, y, _). q ∙ rw (x, y))
   ];
-  save-accepted = λ s buffer left f e k. elim (saves s buffer left f e) [
+  save-accepted = λ s buffer left f e k. elim (saves s buffer left (read-filled f) e) [
     | has-room _ q m ↦ (q, ap (take (length (image s))) m ∙ take-append-seam (image s) _, ap (drop (length (image s))) m ∙ drop-append-seam (image s) _)
     | no-room l _ _ ↦ absurd (omega arith)
   ];
-  saved-loads = saved-loads;
-  loaded-saves = loaded-saves;
-  image-alone = λ h t u before l a b k d e f.
-      let z = e ∙ over-alone (read-state h) before l k d ∙ sym f in
-      (ap (λ (x : calls.Answer × seats.State). x .0) z, ap (λ (x : calls.Answer × seats.State). x .1) z);
+  saved-loads = λ s h t buffer left before f n a r e w p.
+      by-part (p ∙ front-loads (read-state s) buffer left (read-filled f) e n w (reached-keeps s r) (read-state h) before);
+  loaded-saves = λ h s l buffer left a f n b p r e w.
+      front-same (read-state s) buffer left (read-filled f) e n w l b
+      (accepted-load (read-state h) (read-state s) l (ap (λ (x : calls.Answer). (x, read-state s)) (sym r) ∙ p));
+  image-alone = λ h t u before l a b k d e f. by-part (e ∙ over-alone (read-state h) before l k d ∙ sym f);
 }
   where
     left : (s t : State) (l : List ℕ) (a : Answer) (c : Call) → StepPromise s l a t → decode l ≡ well-formed c → refuses a ≡ false → read-state t ≡ after (read-state s) c
-    left s t l a c e q r = ap (λ (x : calls.Answer × seats.State). x .1) (record-accepted (read-state s) (read-outcome (a, t)) l e c q r)
+    left s t l a c e q r = by-part (record-accepted (read-state s) (read-outcome (a, t)) l e c q r) .1
 
 -- Demand 3.
 pub demand-three : DemandThreeWithShorter

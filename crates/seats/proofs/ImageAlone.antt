@@ -1,18 +1,17 @@
 -- What precedes an image is not read: a load of bytes whose trailer's distance lies within them is the same behind any bytes, refused or not.
 -- Assumes nothing.
-use mathlib.Core.Path.{_≡_, refl, sym, ap, _∙_, subst}
-use mathlib.Core.List.{List, [], _++_, append-assoc}
+use mathlib.Core.Path.{_≡_, refl, sym, ap, _∙_}
+use mathlib.Core.List.{List, [], _++_}
 use Prim.Native.Nat.{ℕ, _+_, _-_, _*_, _^_, _<_, _≤_}
 use native.Mathlib.Omega.{arith}
 use lib.ListN.{length, length-append}
 use lib.Seq.{drop-at}
 use borrow.Author.Tests.{le-ltb, le-leb}
-use Rattle.seats.specs.Bytes.{bytes-of, number-at}
-use Rattle.seats.specs.Seats.{State}
-use Rattle.seats.specs.Images.{Contents, contents-of, entry-bytes, trailer-length, least-image, Counts, counts-of, distance, trailer, parts, image, entries-at, far-at, counts-at, contents, load-trailer, load}
+use Rattle.seats.specs.Bytes.{number-at}
+use Rattle.seats.specs.Images.{trailer-length, least-image, Counts, distance, trailer, entries-at, far-at, counts-at, contents, load-trailer, load}
 use Rattle.seats.proofs.Numbers.{number-drop, number-behind}
 use Rattle.seats.proofs.EntryBytes.{entries-drop}
-use Rattle.seats.proofs.ImageLength.{length-trailer, image-length, image-bound}
+use Rattle.seats.proofs.ImageLength.{length-trailer}
 
 module _ (p l : List ℕ) where
   -- A number and entries at a place of the bytes stand as much further behind others.
@@ -73,20 +72,3 @@ module _ (p l : List ℕ) where
 pub trailer-distance : (n : Counts) → distance n < 256 ^ 4 → far-at (trailer n) (length (trailer n)) ≡ distance n
 unfolding far-at trailer
 trailer-distance n h = ap (λ (k : ℕ). number-at 4 (k - trailer-length) (trailer n)) (length-trailer n) ∙ number-behind 4 (distance n) 0 [] _ refl h
-
--- The distance in the trailer of a state's image is the image's length.
-pub image-distance : (s : State) → far-at (image s) (length (image s)) ≡ length (image s)
-unfolding image parts
-image-distance s = subst (λ (l : List ℕ). far-at l (length l) ≡ distance n) whole (far-alone front (trailer n) (omega (arith, length-trailer n)) ∙ trailer-distance n (omega (arith, image-bound s, image-length s))) ∙ sym (image-length s)
-  where
-    c : Contents
-    c = contents-of s
-
-    n : Counts
-    n = counts-of c
-
-    front : List ℕ
-    front = bytes-of 8 (c .top) ++ (entry-bytes 8 (c .roles) ++ (entry-bytes 1 (c .conflicts) ++ entry-bytes 8 (c .seats)))
-
-    whole : front ++ trailer n ≡ image s
-    whole = simp append-assoc

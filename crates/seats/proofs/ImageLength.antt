@@ -42,11 +42,6 @@ pub image-length : (s : State) → length (image s) ≡ distance (counts-of (con
 unfolding image
 image-length s = length-parts (contents-of s)
 
--- Every image has its trailer.
-pub image-least : (s : State) → trailer-length ≤ length (image s)
-unfolding distance
-image-least s = omega (arith, image-length s)
-
 -- ---- at most how long
 -- The entries listed from i on and the places before i that have one are the places that have one.
 counted-from : (has : ℕ → Bool) (entry : ℕ → Entry) (i n : ℕ) → length (listed-from i n has entry) + count i has ≡ count (i + n) has

@@ -15,11 +15,6 @@ pub mod LoadInvariant
 pub mod History
 pub mod ListTheorem
 pub mod KeeperTheorem
--- ---- the three demands
-pub mod FirstChecks
-pub mod RecordVerdict
-pub mod WholeChecks
-pub mod Demands
 -- ---- bytes
 pub mod Numbers
 pub mod ShortNumbers
@@ -36,7 +31,6 @@ pub mod ImageReading
 pub mod EntryReading
 pub mod LoadFacts
 pub mod LoadRefusals
-pub mod LoadVerdict
 pub mod LoadChecks
 pub mod MemberEntries
 pub mod SaveParts
@@ -51,5 +45,13 @@ pub mod ReaderCalls
 pub mod StateCells
 pub mod Lines
 pub mod Feeding
+-- ---- the three demands
+pub mod FirstChecks
+pub mod RecordVerdict
+pub mod LoadVerdict
+pub mod WholeChecks
+pub mod OneOutcome
+pub mod SaveOutcomes
+pub mod Demands
 -- ---- document 01's samples
 pub mod Examples

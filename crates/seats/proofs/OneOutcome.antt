@@ -1,0 +1,53 @@
+-- Every promise can be kept, and whatever keeps it reads alike: an equation with what a definition gives leaves one outcome.
+-- Assumes nothing.
+use mathlib.Core.Path.{_≡_, refl, sym, ap, _∙_}
+use mathlib.Core.List.{List, []}
+use Prim.Native.Nat.{ℕ}
+use Rattle.graph.specs.Reading.{sets-in}
+use Rattle.seats.specs.Bytes.{written, too-short}
+use Rattle.seats.specs.Bytes as bytes
+use Rattle.seats.specs.Seats as seats
+use Rattle.seats.specs.Calls.{accepted, answered, refused}
+use Rattle.seats.specs.Calls as calls
+use Rattle.seats.specs.Demands.{One, read-outcome, read-left}
+use Rattle.seats.specs.Reading.{read-answer, read-filled}
+use Rattle.seats.specs.declared.State.{State}
+use Rattle.seats.specs.declared.Answer.{Answer}
+use Rattle.seats.specs.declared.Answer.the-variants as answers
+use Rattle.seats.specs.declared.Filled.{Filled}
+use Rattle.seats.specs.declared.Filled.the-variants as fillings
+
+-- What is read as y is there, and whatever reads as y reads alike.
+one : {X Y : Type 0} (read : X → Y) (write : Y → X) → ((y : Y) → read (write y) ≡ y) → (y : Y) → One read (λ x. read x ≡ y)
+one read write back y = record { some = write y; kept = back y; alike = λ x e. e ∙ sym (back y) }
+
+-- An answer, a state and what filling answers, as the code holds them.
+write-answer : calls.Answer → Answer
+write-answer accepted = answers.Accepted
+write-answer (answered b) = answers.Answered b
+write-answer (refused n p) = answers.Refused (record { number = n; place = p })
+
+read-written : (a : calls.Answer) → read-answer (write-answer a) ≡ a
+unfolding read-answer write-answer
+read-written accepted = refl
+read-written (answered b) = refl
+read-written (refused n p) = refl
+
+write-state : seats.State → State
+write-state s = record { roles = s .graph .roles; sets = s .graph .sets; conflicts = s .graph .conflicts; seats = s .seats }
+
+write-filled : bytes.Filled → Filled
+write-filled (written n) = fillings.Written n
+write-filled (too-short n p) = fillings.TooShort (record { number = n; place = p })
+
+filled-written : (f : bytes.Filled) → read-filled (write-filled f) ≡ f
+unfolding read-filled write-filled
+filled-written (written n) = refl
+filled-written (too-short n p) = refl
+
+pub one-outcome : (y : calls.Answer × seats.State) → One read-outcome (λ z. read-outcome z ≡ y)
+unfolding write-state sets-in
+one-outcome y = one read-outcome (λ y. (write-answer (y .0), write-state (y .1))) (λ y. ap (λ (a : calls.Answer). (a, y .1)) (read-written (y .0))) y
+
+pub one-left : (y : bytes.Filled × List ℕ) → One read-left (λ z. read-left z ≡ y)
+one-left y = one read-left (λ y. (write-filled (y .0), y .1)) (λ y. ap (λ (f : bytes.Filled). (f, y .1)) (filled-written (y .0))) y
