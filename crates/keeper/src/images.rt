@@ -9,13 +9,11 @@ use crate::block::put_state;
 use crate::codes::NO_IMAGE;
 use crate::codes::NO_STATE;
 use crate::codes::NOT_SAVED;
-use crate::codes::code;
 use crate::codes::refusal_code;
-use seats::Answer;
+use graph::Verdict;
 use seats::Filled;
 use seats::loading;
 use seats::saving;
-use seats::tape;
 
 // Saves the block's state into the buffer: the length written, or NOT_SAVED and the code of what hinders it.
 #[no_mangle]
@@ -43,13 +41,13 @@ pub extern "C" fn keeper_load(block: &mut [u64], bytes: &[u8]) -> u32
     if block.len() < WORDS {
         return NO_STATE;
     }
-    let loaded = loading::load(tape::fresh(), bytes);
-    let answer = loaded.answer;
-    match answer {
-        Answer::Accepted => {
-            put_state(block, loaded.state);
-            code(answer)
+    let image = loading::read_image(bytes);
+    let verdict = image.verdict;
+    match verdict {
+        Verdict::Passed => {
+            put_state(block, image.state);
+            0
         }
-        _ => code(answer),
+        Verdict::Refused(refusal) => refusal_code(refusal.number, refusal.place),
     }
 }

@@ -1,4 +1,4 @@
--- Loads that are refused: with 6, 7 or 8 at place 0, and the state at hand is kept.
+-- What a load leaves: the state that it gives, or the state at hand; and that it is refused with 6, 7 or 8 at place 0.
 -- Assumes nothing.
 use mathlib.Core.Path.{_≡_, refl, subst}
 use mathlib.Core.Bool.{Bool, true, false, cond, _&&_}
@@ -10,15 +10,7 @@ use lib.Dec.{eqb, leb, ltb}
 use Rattle.graph.specs.Refusing.{Check, Verdict, passed, verdict}
 use Rattle.graph.specs.Refusing as refusing
 use Rattle.seats.specs.Seats.{State}
-use Rattle.lists.specs.Settling as settling
 use Rattle.seats.specs.Calls.{accepted, refused}
-use Rattle.seats.specs.Calls as calls
-use denote.Enum.Declared.{tagOf}
-use types.Run.{OneOf}
-use Rattle.seats.specs.Reading.{read-answer}
-use Rattle.seats.specs.declared.Answer.the-variants as answers
-use Rattle.seats.proofs.Answer as answer-enum
-use Rattle.seats.proofs.Changing.{accepted-taken, other-taken}
 use Rattle.seats.specs.Images.{least-image, distance, Contents, far-at, counts-at, contents, restored, entry-checks, content-checks, Loaded, loaded, not-loaded, unless-refused, load-contents, load-trailer, load, settle-load, load-over}
 
 pub load-refused-keeps : (s : State) (l : List ℕ) (n p : ℕ) → load l ≡ not-loaded n p → load-over s l ≡ (refused n p, s)
@@ -28,24 +20,6 @@ load-refused-keeps s l n p e = rw e
 pub load-accepted-takes : (s : State) (l : List ℕ) (h : State) → load l ≡ loaded h → load-over s l ≡ (accepted, h)
 unfolding load-over settle-load
 load-accepted-takes s l h e = rw e
-
--- What an accepted load gives does not depend on the state at hand.
-pub load-accepted-any : (t s : State) (l : List ℕ) {a : answers.the-data} {k : State} → (read-answer a, k) ≡ load-over t l → a ≡ answers.Accepted → (read-answer a, k) ≡ load-over s l
-unfolding load-over settle-load calls.settle calls.judged settling.settle
-load-accepted-any t s l {a} {k} e d = go (load l) e
-  where
-    go : (x : Loaded) → (read-answer a, k) ≡ settle-load t x → (read-answer a, k) ≡ settle-load s x
-    go (loaded h) e = accepted-taken passed t h s e d
-    go (not-loaded n p) e = accepted-taken (refusing.refused n p) t t s e d
-
--- Any other answer to a load is that with any state at hand, which is kept.
-pub load-other-any : (t s : State) (l : List ℕ) (a : answers.the-data) {k : State} → (read-answer a, k) ≡ load-over t l → OneOf (1 ∷ 2 ∷ []) (tagOf answer-enum.the-type a) → (read-answer a, s) ≡ load-over s l
-unfolding load-over settle-load calls.settle calls.judged settling.settle
-load-other-any t s l a {k} e o = go (load l) e
-  where
-    go : (x : Loaded) → (read-answer a, k) ≡ settle-load t x → (read-answer a, s) ≡ settle-load s x
-    go (loaded h) e = other-taken passed t h s a e o
-    go (not-loaded n p) e = other-taken (refusing.refused n p) t t s a e o
 
 -- A refusal of loading: 6, 7 or 8, at place 0.
 abbrev pub OfLoading : ℕ → ℕ → Type 0

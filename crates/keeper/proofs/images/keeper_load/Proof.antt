@@ -1,12 +1,17 @@
--- `keeper::images::keeper_load` meets its contract: what loading accepts is written, and any other answer leaves the block.
+-- `keeper::images::keeper_load` meets its contract: an image that passes is written, and a refused one leaves the block.
 -- Assumes nothing.
-use mathlib.Core.Path.{sym}
+use mathlib.Core.Path.{refl, sym, ap, _∙_}
 use native.Mathlib.Omega.{arith}
 use borrow.Author.Needs.{needs}
 use borrow.Author.Tests.{lt-leb, le-leb}
-use Rattle.seats.specs.Reading.{read-state, read-answer}
-use Rattle.seats.proofs.LoadRefusals.{load-accepted-any, load-other-any}
-use Rattle.keeper.specs.Block.{state-in, of-state}
+use Rattle.graph.specs.Reading.{read-verdict}
+use Rattle.graph.specs.declared.Verdict as verdict-enum
+use Rattle.seats.specs.Calls.{accepted, refused}
+use Rattle.seats.specs.Tape.{answer-number, answer-place}
+use Rattle.seats.specs.Reading.{read-state}
+use Rattle.seats.proofs.LoadChecks.{loads-passed, loads-refused}
+use Rattle.seats.proofs.LoadRefusals.{load-accepted-takes, load-refused-keeps}
+use Rattle.keeper.specs.Block.{state-in, of-state, code-of}
 use Rattle.keeper.specs.Exports.{load-block}
 use Rattle.keeper.proofs.BlockWords.{holds-own}
 use Rattle.keeper.proofs.CodedAnswer.{gives}
@@ -17,9 +22,6 @@ returns : tie.Need-returns
 unfolding load-block of-state
 returns c = simp (lt-leb _ _ (c .if1 .taken))
 
-enum-told : tie.Need-enum-told
-enum-told c = search needs
-
 put-state-requires : tie.Need-put-state-requires
 put-state-requires c κs = search needs
 
@@ -27,27 +29,30 @@ same-length : tie.Need-same-length
 same-length c = search needs
 
 returns-2 : tie.Need-returns-2
-unfolding load-block of-state
+unfolding load-block of-state code-of answer-number answer-place read-verdict
 returns-2 c =
-    let d = c .before .before .before .before .before .before .before in
-    let p = d .before .before .before .before .before in
+    let s = c .before .before in
+    let t = s .before .before in
+    let d = t .before .before in
+    let p = d .before .before .before .before in
     let W = p .args .block .now in
-    let r = d .load .result in
-    rw (le-leb _ _ (d .before .before .if1 .left))
-    (gives W (read-answer (r .answer)) (read-state (r .state)) (c .code .ensures) (c .before .before .before .put-state .ensures)
-    (load-accepted-any (read-state (d .before .fresh .result)) (state-in W) (p .args .bytes .now) (d .load .ensures) (c .before .before .before .before .before .enum-told .given .1)))
+    let r = d .read-image .result in
+    let e = loads-passed (p .args .bytes .now) (read-state (r .state)) (ap (λ (v : verdict-enum.Verdict). (read-verdict v, read-state (r .state))) (sym (t .enum-told .given .1)) ∙ d .read-image .ensures) in
+    rw (le-leb _ _ (d .before .if1 .left))
+    (gives W accepted (read-state (r .state)) refl (s .put-state .ensures) (sym (load-accepted-takes (state-in W) (p .args .bytes .now) (read-state (r .state)) e)))
 
 returns-3 : tie.Need-returns-3
-unfolding load-block of-state
+unfolding load-block of-state read-verdict
 returns-3 c =
-    let d = c .before .before in
-    let p = d .before .before .before .before .before in
+    let v = c .before .before in
+    let d = v .before .before in
+    let p = d .before .before .before .before in
     let W = p .args .block .now in
-    let r = d .load .result in
-    let whole = d .before .before .if1 .left in
+    let r = d .read-image .result in
+    let whole = d .before .if1 .left in
+    let e = loads-refused (p .args .bytes .now) _ _ (read-state (r .state)) (ap (λ (v : verdict-enum.Verdict). (read-verdict v, read-state (r .state))) (sym (v .verdict .given .1)) ∙ d .read-image .ensures) in
     rw (le-leb _ _ whole)
-    (gives W (read-answer (r .answer)) (state-in W) (c .code2 .ensures) (sym (holds-own W (omega (arith, whole))))
-    (load-other-any (read-state (d .before .fresh .result)) (state-in W) (p .args .bytes .now) (r .answer) (d .load .ensures) (c .before .match .keys2)))
+    (gives W (refused _ _) (state-in W) (c .refusal-code .ensures .0) (sym (holds-own W (omega (arith, whole)))) (sym (load-refused-keeps (state-in W) (p .args .bytes .now) _ _ e)))
 
 pub keeper-load-spec : {M : Type 1} → statement M
 keeper-load-spec =
@@ -55,10 +60,9 @@ keeper-load-spec =
     (tie.spec
     returns
     (λ c κs. tt)
-    (λ c κs. tt)
-    enum-told
+    (λ c. search needs)
     put-state-requires
-    (λ c κs. tt)
+    (λ c. search needs)
     (λ c κs. tt)
     same-length
     returns-2
