@@ -73,8 +73,8 @@ extern "C" {
  *
  * An answer is 0 for accepted, 1 or 0 for an ask's yes or no, or 256 times a refusal's number plus its place. So
  * `if (keeper_ask(..))` is a mistake: a refusal is not 0 either. Ask keeper_may, or compare with 1.
- * What keeper_save gives is a length where it is below KEEPER_NOT_SAVED, and otherwise KEEPER_NOT_SAVED plus an answer,
- * which is no image's length.
+ * What keeper_save and keeper_image_length give is a length where it is below KEEPER_NOT_SAVED, and otherwise
+ * KEEPER_NOT_SAVED plus an answer, which is no image's length.
  */
 
 /* The answer for a block of fewer than KEEPER_WORDS words. */
@@ -196,6 +196,10 @@ KEEPER_HEED uint32_t keeper_save(const uint64_t *block, size_t words, uint8_t *b
 /* Loads the image that ends the bytes, whatever stands before it, and gives 0; or a refusal with 6, 7 or 8, or
  * KEEPER_NO_STATE, and the state stays. An image with other bytes behind it is none: give the length that was saved. */
 KEEPER_HEED uint32_t keeper_load(uint64_t *block, size_t words, const uint8_t *bytes, size_t length);
+
+/* Gives the length of the image that ends the bytes, so that it starts so many bytes before their end. Where loading would
+ * refuse them gives KEEPER_NOT_SAVED plus that refusal. */
+KEEPER_HEED uint32_t keeper_image_length(const uint8_t *bytes, size_t length);
 
 /* ---- what a state shows ---- */
 

@@ -41,7 +41,7 @@ Gives the records of TAPE, or of standard input where TAPE is '-', to the image 
 record's answer; a refused record changes nothing, and its line says why. The file is then replaced, whole or not at
 all. A file beside it, IMAGE.lock, keeps other keepers from changing it meanwhile.
 
-TAPE is read as a tape where it has a zero byte, as every whole record does, and else as text.
+TAPE is read as a tape where it has a zero byte, as every record of a call does, and else as text.
 
   --all-or-none    leaves the file as it was where a record is refused
   --dry-run        leaves the file as it was

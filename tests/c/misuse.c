@@ -130,6 +130,7 @@ static void null_with_length_0_is_fine(void)
     sample(block);
     CHECK(keeper_call(block, KEEPER_WORDS, NULL, 0) == 256 * KEEPER_MALFORMED);
     CHECK(keeper_load(block, KEEPER_WORDS, NULL, 0) == 256 * KEEPER_NO_IMAGE);
+    CHECK(keeper_image_length(NULL, 0) == KEEPER_NOT_SAVED + 256 * KEEPER_NO_IMAGE);
     CHECK(keeper_save(block, KEEPER_WORDS, NULL, 0) == KEEPER_NOT_SAVED + 256 * KEEPER_SHORT_BUFFER);
     CHECK(keeper_count_yes(block, KEEPER_WORDS, NULL, 0) == 0);
     CHECK(keeper_fresh(NULL, 0) == KEEPER_NO_STATE);
@@ -184,6 +185,7 @@ static void an_image_behind_other_bytes_loads(void)
     length = keeper_save(block, KEEPER_WORDS, bytes + 100, KEEPER_LONGEST_IMAGE);
     CHECK(keeper_fresh(loaded, KEEPER_WORDS) == 0);
     CHECK(keeper_load(loaded, KEEPER_WORDS, bytes, 100 + length) == 0);
+    CHECK(keeper_image_length(bytes, 100 + length) == length);
     CHECK(memcmp(block, loaded, sizeof block) == 0);
 }
 
@@ -199,6 +201,7 @@ static void an_image_before_other_bytes_is_refused_and_the_state_stays(void)
     for (more = 1; more < 40; more++) {
         uint32_t answer = keeper_load(block, KEEPER_WORDS, buffer, length + more);
         CHECK(KEEPER_NUMBER(answer) == KEEPER_NO_IMAGE && KEEPER_PLACE(answer) == 0);
+        CHECK(keeper_image_length(buffer, length + more) == KEEPER_NOT_SAVED + answer);
         CHECK(memcmp(before, block, sizeof block) == 0);
     }
 }

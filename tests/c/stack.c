@@ -23,6 +23,7 @@ static void fresh(void) { given = keeper_fresh(block, KEEPER_WORDS); }
 static void call(void) { given = keeper_call(block, KEEPER_WORDS, record.bytes, KEEPER_RECORD); }
 static void load(void) { given = keeper_load(block, KEEPER_WORDS, image, image_length); }
 static void save(void) { given = keeper_save(block, KEEPER_WORDS, image, sizeof image); }
+static void measured(void) { given = keeper_image_length(image, image_length); }
 static void may(void) { given = keeper_may(block, KEEPER_WORDS, 5, 1); }
 static void ask(void) { given = keeper_ask(block, KEEPER_WORDS, 5, 1); }
 static void count_yes(void) { given = keeper_count_yes(block, KEEPER_WORDS, image, sizeof image); }
@@ -94,7 +95,7 @@ static void the_deepest_chain(void)
 
 static void what_a_full_state_shows_and_saves(void)
 {
-    void (*const shown[])(void) = { may, ask, count_yes, edge_count, effective, direct, juniors, seniors, is_below, is_declared, seat_roles, seat_holds };
+    void (*const shown[])(void) = { measured, may, ask, count_yes, edge_count, effective, direct, juniors, seniors, is_below, is_declared, seat_roles, seat_holds };
     size_t i;
     measure(save);
     image_length = (uint32_t)given;

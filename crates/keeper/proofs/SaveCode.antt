@@ -1,4 +1,4 @@
--- What a save answers, as one number: the length written is small, and the code is that of the definition's answer.
+-- What a save and a measure answer, as one number: a length is small, and the code of a save is that of the definition's answer.
 -- Assumes nothing.
 use mathlib.Core.Path.{_≡_, ap, _∙_}
 use mathlib.Core.Logic.{inl, inr}
@@ -10,7 +10,7 @@ use lib.Dec.{leb}
 use Rattle.sets.proofs.Tests.{passes, fails, decide}
 use Rattle.seats.specs.Bytes.{Filled, written, fill}
 use Rattle.seats.specs.Seats.{State}
-use Rattle.seats.specs.Images.{image}
+use Rattle.seats.specs.Images.{image, Loaded, loaded, not-loaded, load, measured, measure-loaded, measure}
 use Rattle.seats.specs.Saving.{save}
 use Rattle.seats.proofs.ImageLength.{image-bound}
 use Rattle.keeper.specs.Block.{save-code}
@@ -30,3 +30,12 @@ written-le s buffer n d e = elim (decide (leb (length (image s)) (length buffer)
 -- The code of what was answered, and the buffer.
 pub saves : (s : State) (buffer : List ℕ) {f : Filled} {X : List ℕ} {v : ℕ} → v ≡ save-code f → (f, X) ≡ save s buffer → _≡_ {A = ℕ × List ℕ} (v, X) (save-code (save s buffer .0), save s buffer .1)
 saves s buffer {X = X} p e = ap (λ (k : ℕ). (k, X)) p ∙ ap (λ (r : Filled × List ℕ). (save-code (r .0), r .1)) e
+
+-- A length that measuring gives is at most that of the longest image.
+pub measured-le : (l : List ℕ) (n : ℕ) → measured n ≡ measure l → n ≤ 5182
+unfolding measure measure-loaded
+measured-le l n e = go (load l) e
+  where
+    go : (x : Loaded) → measured n ≡ measure-loaded x → n ≤ 5182
+    go (loaded s) q = let o : n ≡ length (image s) = cc in omega (arith, image-bound s)
+    go (not-loaded k p) q = let z : _≡_ {A = ℕ} 0 1 = cc in omega arith

@@ -8,6 +8,7 @@ use Rattle.graph.specs.Graph.{role-count, privilege-count}
 use Rattle.seats.specs.Bytes.{Filled, written, too-short}
 use Rattle.seats.specs.Seats.{State, seat-count}
 use Rattle.seats.specs.Calls.{Answer, refused}
+use Rattle.seats.specs.Images.{Measured, measured, unmeasured}
 use Rattle.seats.specs.Tape.{answer-number, answer-place}
 use Rattle.seats.specs.Reading.{state-of}
 
@@ -71,3 +72,8 @@ not-saved = 65536
 unfoldable pub save-code : Filled → ℕ
 save-code (written n) = n
 save-code (too-short n p) = not-saved + code-of (refused n p)
+
+-- The length of an image as one number: the length, or the refusal's code with not-saved added.
+unfoldable pub length-code : Measured → ℕ
+length-code (measured n) = n
+length-code (unmeasured n p) = not-saved + code-of (refused n p)

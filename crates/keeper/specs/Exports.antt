@@ -11,11 +11,11 @@ use Rattle.graph.specs.Drawing.{below, juniors, seniors, edge-count, direct}
 use Rattle.seats.specs.Seats.{State, fresh, held}
 use Rattle.seats.specs.Calls.{Answer, accepted}
 use Rattle.seats.specs.Records.{step}
-use Rattle.seats.specs.Images.{load-over}
+use Rattle.seats.specs.Images.{measure, load-over}
 use Rattle.seats.specs.Saving.{save}
 use Rattle.seats.specs.ListTheorem.{ask-record}
 use Rattle.seats.specs.Asks.{is-yes, yes-count}
-use Rattle.keeper.specs.Block.{holding, of-state, code-of, no-state, not-saved, save-code}
+use Rattle.keeper.specs.Block.{holding, of-state, code-of, no-state, not-saved, save-code, length-code}
 
 -- An answer's code, and the block with the state after it.
 unfoldable pub given : List ℕ → Answer × State → ℕ × List ℕ
@@ -36,6 +36,10 @@ load-block W l = of-state W (λ s. given W (load-over s l)) (no-state, W)
 -- The state's image at the buffer's front; a block with too few words has none, and its answer is no length either.
 unfoldable pub save-block : List ℕ → List ℕ → ℕ × List ℕ
 save-block W buffer = of-state W (λ s. let r = save s buffer in (save-code (r .0), r .1)) (not-saved + no-state, buffer)
+
+-- How long the image is that ends the bytes; no block is concerned.
+unfoldable pub image-length : List ℕ → ℕ
+image-length l = length-code (measure l)
 
 -- Seat i may use privilege p: kind 12, given next, answers yes. A refusal is no yes, and neither is what a number above 63 is answered.
 unfoldable pub may-block : List ℕ → ℕ → ℕ → Bool

@@ -1,6 +1,6 @@
-// The exported functions that save an image into a lent buffer, and load one.
+// The exported functions that save an image into a lent buffer, measure one, and load one.
 ghost use mathlib.Core.Path.{_≡_};
-ghost use Rattle.keeper.specs.Exports.{save-block, load-block};
+ghost use Rattle.keeper.specs.Exports.{save-block, image-length, load-block};
 use crate::block::CONFLICTS;
 use crate::block::SEATS;
 use crate::block::SETS;
@@ -12,6 +12,7 @@ use crate::codes::NOT_SAVED;
 use crate::codes::refusal_code;
 use graph::Verdict;
 use seats::Filled;
+use seats::Measured;
 use seats::loading;
 use seats::saving;
 
@@ -30,6 +31,18 @@ pub extern "C" fn keeper_save(block: &[u64], buffer: &mut [u8]) -> u32
     match filled {
         Filled::Written(n) => n as u32,
         Filled::TooShort(refusal) => NOT_SAVED + refusal_code(refusal.number, refusal.place),
+    }
+}
+
+// How long the image is that ends the bytes: its length, or NOT_SAVED and the code of what loading refuses it with.
+#[no_mangle]
+pub extern "C" fn keeper_image_length(bytes: &[u8]) -> u32
+    ensures { λ r. ⌜ r ≡ image-length (now (bytes .entry)) ⌝ }
+{
+    let measured = loading::image_length(bytes);
+    match measured {
+        Measured::Length(n) => n as u32,
+        Measured::Refused(refusal) => NOT_SAVED + refusal_code(refusal.number, refusal.place),
     }
 }
 

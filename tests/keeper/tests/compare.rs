@@ -1,9 +1,9 @@
 //! The proved keeper beside the reference: random lists of calls, loads and saves, and what each shows of its state.
 
-use keeper::Keeper;
+use keeper::{image_length, Keeper};
 use keeper_tests::Kept;
 use role_reference::compare::{run, Counts};
-use role_reference::generate::random_state;
+use role_reference::generate::{image_list, random_state, Step};
 use role_reference::random::{printed_seed, Random};
 use role_reference::reference::{has, Reference};
 
@@ -83,4 +83,21 @@ fn the_keeper_shows_what_the_reference_does() {
         same_pairs(&keeper, &reference);
         same_seats(&keeper, &reference);
     }
+}
+
+/// The length measured is that of the image that loads, and the refusals are loading's.
+#[test]
+fn an_image_is_measured_as_it_loads() {
+    let mut random = Random::new(printed_seed());
+    let (mut loads, mut refused) = (0, 0);
+    for step in (0..60).flat_map(|_| image_list(&mut random)) {
+        let Step::Load(bytes) = step else { continue };
+        let mut keeper = Keeper::fresh();
+        let measured = keeper.load(&bytes).map(|()| keeper.save().len());
+        assert_eq!(image_length(&bytes), measured);
+        loads += usize::from(measured.is_ok());
+        refused += usize::from(measured.is_err());
+    }
+    assert!(refused > 1000, "{refused} images are refused");
+    assert!(loads > 1000, "{loads} images load");
 }
