@@ -201,7 +201,10 @@ KEEPER_HEED uint32_t keeper_load(uint64_t *block, size_t words, const uint8_t *b
  * refuse them gives KEEPER_NOT_SAVED plus that refusal. */
 KEEPER_HEED uint32_t keeper_image_length(const uint8_t *bytes, size_t length);
 
-/* ---- what a state shows ---- */
+/* ---- what a state shows ----
+ *
+ * Roles, privileges and seats are bytes here: one above 63 shows nothing, and a number above 255 is narrowed before the call.
+ */
 
 /* Gives the number of drawn edges. */
 KEEPER_HEED uint32_t keeper_edge_count(const uint64_t *block, size_t words);

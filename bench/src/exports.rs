@@ -9,6 +9,7 @@ pub const WORDS: usize = 193;
 extern "C" {
     pub fn keeper_fresh(block: *mut u64, words: usize) -> u32;
     pub fn keeper_call(block: *mut u64, words: usize, bytes: *const u8, length: usize) -> u32;
+    pub fn keeper_may(block: *const u64, words: usize, seat: u32, privilege: u32) -> bool;
     pub fn keeper_ask(block: *const u64, words: usize, seat: u8, privilege: u8) -> u32;
     pub fn keeper_count_yes(block: *const u64, words: usize, asks: *const u8, length: usize)
         -> u64;

@@ -1,7 +1,8 @@
 //! The proved keeper as a value: a block of words, and the exported functions on it.
 
 use crate::exports::{
-    keeper_ask, keeper_call, keeper_count_yes, keeper_fresh, keeper_load, keeper_save, WORDS,
+    keeper_ask, keeper_call, keeper_count_yes, keeper_fresh, keeper_load, keeper_may, keeper_save,
+    WORDS,
 };
 use crate::side::Side;
 
@@ -19,6 +20,11 @@ impl Side for Kept {
     #[inline(always)]
     fn call(&mut self, record: &[u8]) -> u32 {
         unsafe { keeper_call(self.0.as_mut_ptr(), WORDS, record.as_ptr(), record.len()) }
+    }
+
+    #[inline(always)]
+    fn may(&self, seat: u32, privilege: u32) -> bool {
+        unsafe { keeper_may(self.0.as_ptr(), WORDS, seat, privilege) }
     }
 
     #[inline(always)]

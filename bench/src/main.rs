@@ -157,6 +157,18 @@ fn asks(table: &mut Table) {
             |side| Side::ask(side, black_box(seat), black_box(privilege)),
         );
     }
+    for (seat, privilege, name) in [
+        (1, 5, "may: seat with 1 role, yes"),
+        (4, 50, "may: seat with 4 roles, no"),
+        (256, 5, "may: seat 256, no"),
+    ] {
+        table.steady(
+            name,
+            &state,
+            |side| Side::may(side, black_box(seat), black_box(privilege)).into(),
+            |side| Side::may(side, black_box(seat), black_box(privilege)).into(),
+        );
+    }
 }
 
 /// Asks one after another in one call, the loop being the keeper's own; the time is that of all.

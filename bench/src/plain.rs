@@ -199,6 +199,15 @@ impl Plain {
         }
     }
 
+    /// Whether kind 12 answers yes; a number that no byte holds is answered no.
+    #[inline(never)]
+    pub fn may(&self, seat: u32, privilege: u32) -> bool {
+        match (u8::try_from(seat), u8::try_from(privilege)) {
+            (Ok(seat), Ok(privilege)) => self.answer(seat, privilege) == Ok(1),
+            _ => false,
+        }
+    }
+
     /// Kind 12 without a record.
     #[inline(never)]
     pub fn ask(&self, seat: u8, privilege: u8) -> Answer {

@@ -5,6 +5,7 @@ use crate::plain::{Answer, Plain};
 pub trait Side: Clone {
     fn fresh() -> Self;
     fn call(&mut self, record: &[u8]) -> u32;
+    fn may(&self, seat: u32, privilege: u32) -> bool;
     fn ask(&self, seat: u8, privilege: u8) -> u32;
     fn count_yes(&self, asks: &[u8]) -> u32;
     fn load(&mut self, bytes: &[u8]) -> u32;
@@ -24,6 +25,11 @@ impl Side for Plain {
     #[inline(always)]
     fn call(&mut self, record: &[u8]) -> u32 {
         code(Plain::call(self, record))
+    }
+
+    #[inline(always)]
+    fn may(&self, seat: u32, privilege: u32) -> bool {
+        Plain::may(self, seat, privilege)
     }
 
     #[inline(always)]
