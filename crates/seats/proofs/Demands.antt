@@ -23,6 +23,7 @@ use Rattle.seats.specs.Records.{well-formed, decode, step}
 use Rattle.seats.specs.Images.{least-image, image, far-at, restored, Loaded, loaded, not-loaded, load, load-over, settle-load}
 use Rattle.seats.specs.Saving.{save}
 use Rattle.seats.specs.Lists.{end}
+use Rattle.seats.specs.Tape.{records, feed}
 use Rattle.seats.specs.Tape.{records}
 use Rattle.seats.specs.Promises.{StepPromise, LoadPromise}
 use Rattle.seats.specs.Demands.{read-outcome, refuses, OfLoad, contents-in, load-checks, Reached, ChangedBy, Closes, Says, DemandOne, DemandTwo, DemandThreeWithShorter, Demands}
@@ -42,7 +43,9 @@ use Rattle.seats.proofs.WholeChecks.{declare-by-whole, assign-by-whole}
 use Rattle.seats.proofs.LoadRefusals.{load-refusals}
 use Rattle.seats.proofs.LoadVerdict.{load-checks-ascend, load-settles}
 use Rattle.seats.proofs.ImageAlone.{load-alone}
-use Rattle.seats.proofs.OneOutcome.{one-outcome, one-left}
+use Rattle.seats.proofs.OneOutcome.{one-outcome, one-left, one-part}
+use Rattle.seats.proofs.TapeRecords.{answers-count}
+use Rattle.seats.proofs.PartOutcomes.{refused-part, uncounted-part, refused-part-iff, uncounted-part-iff, accepted-part, records-joined}
 use Rattle.seats.proofs.SaveOutcomes.{no-written, same-short, has-room, no-room, saves, front-loads, front-same}
 
 -- Two outcomes that are the same have the same answer and the same state.
@@ -79,6 +82,8 @@ demand-one = record {
   call-answered = λ s l. one-outcome (step (read-state s) l);
   load-answered = λ s l. one-outcome (load-over (read-state s) l);
   save-answered = λ s buffer. one-left (save s buffer);
+  part-answered = λ s count part buffer. one-part (feed (read-state s) count part buffer);
+  tape-answered = λ s tape. (records-joined tape, answers-count s (records tape));
   call-refused = λ s t l a n p e r.
       let (x, y) = record-refused (read-state s) (read-outcome (a, t)) l e n p r in
       (x, record-refused-iff (read-state s) (read-outcome (a, t)) l e n p .0 r, y);
@@ -87,6 +92,8 @@ demand-one = record {
     | has-room _ q _ ↦ absurd (no-written (sym q ∙ r))
     | no-room _ q w ↦ (let (x, y) = same-short (sym q ∙ r) in (sym x, sym y, w))
   ];
+  part-refused = λ s count part buffer left f n p e. refused-part s count part buffer left f e n p;
+  part-uncounted = uncounted-part;
 }
 
 -- ---- what a keeper reaches
@@ -171,6 +178,9 @@ demand-two = record {
     | has-room _ q m ↦ (q, ap (take (length (image s))) m ∙ take-append-seam (image s) _, ap (drop (length (image s))) m ∙ drop-append-seam (image s) _)
     | no-room l _ _ ↦ absurd (omega arith)
   ];
+  part-refused-iff = λ s count part buffer left f n p e. refused-part-iff s count part buffer left f e n p;
+  part-uncounted-iff = uncounted-part-iff;
+  part-accepted = accepted-part;
   saved-loads = λ s h t buffer left before f n a r e w p.
       by-part (p ∙ front-loads (read-state s) buffer left (read-filled f) e n w (reached-keeps s r) (read-state h) before);
   loaded-saves = λ h s l buffer left a f n b p r e w.

@@ -52,6 +52,7 @@ pub mod LoadVerdict
 pub mod WholeChecks
 pub mod OneOutcome
 pub mod SaveOutcomes
+pub mod PartOutcomes
 pub mod Demands
 -- ---- document 01's samples
 pub mod Examples

@@ -9,13 +9,16 @@ use Rattle.seats.specs.Bytes as bytes
 use Rattle.seats.specs.Seats as seats
 use Rattle.seats.specs.Calls.{accepted, answered, refused}
 use Rattle.seats.specs.Calls as calls
-use Rattle.seats.specs.Demands.{One, read-outcome, read-left}
-use Rattle.seats.specs.Reading.{read-answer, read-filled}
+use Rattle.seats.specs.Tape.{PartAnswer, fills, uncounted}
+use Rattle.seats.specs.Demands.{One, read-outcome, read-left, read-part-left}
+use Rattle.seats.specs.Reading.{read-answer, read-filled, read-part}
 use Rattle.seats.specs.declared.State.{State}
 use Rattle.seats.specs.declared.Answer.{Answer}
 use Rattle.seats.specs.declared.Answer.the-variants as answers
 use Rattle.seats.specs.declared.Filled.{Filled}
 use Rattle.seats.specs.declared.Filled.the-variants as fillings
+use Rattle.seats.specs.declared.PartAnswer as part-enum
+use Rattle.seats.specs.declared.PartAnswer.the-variants as part-answers
 
 -- What is read as y is there, and whatever reads as y reads alike.
 one : {X Y : Type 0} (read : X → Y) (write : Y → X) → ((y : Y) → read (write y) ≡ y) → (y : Y) → One read (λ x. read x ≡ y)
@@ -51,3 +54,20 @@ one-outcome y = one read-outcome (λ y. (write-answer (y .0), write-state (y .1)
 
 pub one-left : (y : bytes.Filled × List ℕ) → One read-left (λ z. read-left z ≡ y)
 one-left y = one read-left (λ y. (write-filled (y .0), y .1)) (λ y. ap (λ (f : bytes.Filled). (f, y .1)) (filled-written (y .0))) y
+
+write-part : PartAnswer → part-enum.PartAnswer
+write-part (fills (written n)) = part-answers.Written n
+write-part (fills (too-short n p)) = part-answers.TooShort (record { number = n; place = p })
+write-part uncounted = part-answers.Uncounted
+
+part-written : (a : PartAnswer) → read-part (write-part a) ≡ a
+unfolding read-part write-part
+part-written (fills (written n)) = refl
+part-written (fills (too-short n p)) = refl
+part-written uncounted = refl
+
+pub one-part : (y : (PartAnswer × List ℕ) × (ℕ × seats.State)) → One read-part-left (λ z. read-part-left z ≡ y)
+unfolding write-state sets-in
+one-part y =
+    one read-part-left (λ y. (record { answer = write-part (y .0 .0); count = y .1 .0; state = write-state (y .1 .1) }, y .0 .1))
+    (λ y. ap (λ (a : PartAnswer). ((a, y .0 .1), y .1)) (part-written (y .0 .0))) y
