@@ -14,13 +14,13 @@ use Rattle.graph.specs.Editing.{Change, edit, changed}
 use Rattle.graph.specs.Refusing.{input-checks, state-checks}
 use Rattle.graph.proofs.Closing.{Laid, closed-equation, closed-unique}
 use Rattle.graph.proofs.Edits.{laid}
-use Rattle.graph.proofs.Refusals.{Passes, parts, lowest-number}
+use Rattle.graph.proofs.Refusals.{Passes, parts, verdict-passes, lowest-number}
 use Rattle.seats.specs.Bytes.{Bytes}
 use Rattle.seats.specs.Seats as seats
 use Rattle.seats.specs.Calls.{Call, change, declare, lift, assign, unassign, ask, accepted, refused, checks, with-graph, with-conflicts, with-seats, after, is-refusal}
 use Rattle.seats.specs.Calls as calls
 use Rattle.seats.specs.Records.{well-formed, decode, step}
-use Rattle.seats.specs.Images.{least-image, image, far-at, restored, Loaded, loaded, not-loaded, load, load-over, settle-load}
+use Rattle.seats.specs.Images.{least-image, image, far-at, restored, Loaded, loaded, not-loaded, load, load-over, settle-load, measure}
 use Rattle.seats.specs.Saving.{save}
 use Rattle.seats.specs.Lists.{end}
 use Rattle.seats.specs.Tape.{records, feed}
@@ -37,13 +37,13 @@ use Rattle.seats.proofs.CallInvariant.{FitsCall}
 use Rattle.seats.proofs.History.{call-ordinary, call-declared, call-assigned}
 use Rattle.seats.proofs.ListTheorem.{list-theorem}
 use Rattle.seats.proofs.KeeperTheorem.{accepted-load, keeper-theorem}
-use Rattle.seats.proofs.FirstChecks.{first-refuses, Settles, settles}
+use Rattle.seats.proofs.FirstChecks.{first-refuses, refuses-first, none-passes, Settles, settles}
 use Rattle.seats.proofs.RecordVerdict.{record-refused-iff, record-refused, record-accepted-iff, record-lowest, record-accepted, record-passes}
 use Rattle.seats.proofs.WholeChecks.{declare-by-whole, assign-by-whole}
 use Rattle.seats.proofs.LoadRefusals.{load-refusals}
-use Rattle.seats.proofs.LoadVerdict.{load-checks-ascend, load-settles}
+use Rattle.seats.proofs.LoadVerdict.{load-checks-ascend, load-settles, measure-refuses, measure-loads}
 use Rattle.seats.proofs.ImageAlone.{load-alone}
-use Rattle.seats.proofs.OneOutcome.{one-outcome, one-left, one-part}
+use Rattle.seats.proofs.OneOutcome.{one-outcome, one-measured, one-left, one-part}
 use Rattle.seats.proofs.TapeRecords.{answers-count}
 use Rattle.seats.proofs.PartOutcomes.{refused-part, uncounted-part, refused-part-iff, uncounted-part-iff, accepted-part, records-joined}
 use Rattle.seats.proofs.SaveOutcomes.{no-written, same-short, has-room, no-room, saves, front-loads, front-same}
@@ -81,6 +81,7 @@ pub demand-one : DemandOne
 demand-one = record {
   call-answered = λ s l. one-outcome (step (read-state s) l);
   load-answered = λ s l. one-outcome (load-over (read-state s) l);
+  measure-answered = λ l. one-measured (measure l);
   save-answered = λ s buffer. one-left (save s buffer);
   part-answered = λ s count part buffer. one-part (feed (read-state s) count part buffer);
   tape-answered = λ s tape. (records-joined tape, answers-count s (records tape));
@@ -170,6 +171,11 @@ demand-two = record {
         λ x. by-part (z .accepted-gives (z .accepted-iff .1 x)) .0,
       );
   load-accepted = λ s t l a e r. by-part (load-settled s t l a e .accepted-gives (no-refusal a r)) .1;
+  measure-refused-iff = λ l m n p e. (
+    λ r. refuses-first (load-checks l) n p (measure-refuses l n p .0 (sym e ∙ r)),
+    λ f. e ∙ measure-refuses l n p .1 (first-refuses (load-checks l) n p f),
+  );
+  measure-accepted = λ l m b e t. e ∙ measure-loads l b (verdict-passes (load-checks l) (none-passes (load-checks l) t));
   save-refused-iff = λ s buffer left f n p e. elim (saves s buffer left (read-filled f) e) [
     | has-room k q _ ↦ (λ r. absurd (no-written (sym q ∙ r)), λ (x, y, l). absurd (omega arith))
     | no-room l q _ ↦ (λ r. let (x, y) = same-short (sym q ∙ r) in (sym x, sym y, l), λ (x, y, _). q ∙ rw (x, y))

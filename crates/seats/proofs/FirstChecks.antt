@@ -37,7 +37,7 @@ first-refuses [] n p f = absurd f
 first-refuses (c ∷ l) n p (inl (t, q, r)) = stops c l (passes (c .holds) t) ∙ rw (q, r)
 first-refuses (c ∷ l) n p (inr (t, f)) = moves-on c l (fails (c .holds) t) ∙ first-refuses l n p f
 
-refuses-first : (l : List Check) (n p : ℕ) → verdict l ≡ refusing.refused n p → First l n p
+pub refuses-first : (l : List Check) (n p : ℕ) → verdict l ≡ refusing.refused n p → First l n p
 unfolding First verdict
 refuses-first [] n p e = no-refusal e
 refuses-first (c ∷ l) n p e =

@@ -1,7 +1,8 @@
 -- A load is judged by one list of checks, 6 before 7 before 8: it is refused by the first that holds, or gives the state that the image's entries describe.
 -- Assumes nothing.
-use mathlib.Core.Path.{_≡_, refl, ap, _∙_}
+use mathlib.Core.Path.{_≡_, refl, sym, ap, _∙_}
 use mathlib.Core.Bool.{Bool, true, false, cond, not, _&&_}
+use mathlib.Core.Logic.{_↔_}
 use mathlib.Core.List.{List, _++_}
 use Prim.Native.Nat.{ℕ}
 use native.Mathlib.Omega.{arith}
@@ -12,10 +13,12 @@ use Rattle.graph.specs.Refusing.{Verdict, passed, verdict}
 use Rattle.graph.specs.Refusing as refusing
 use Rattle.graph.proofs.Refusals.{ascending-numbers, ascending-from}
 use Rattle.lists.specs.Settling as settling
+use Rattle.seats.specs.Bytes.{Bytes}
 use Rattle.seats.specs.Seats.{State}
 use Rattle.seats.specs.Calls.{accepted, judged, settle}
-use Rattle.seats.specs.Images.{least-image, distance, far-at, counts-at, restored, entry-checks, content-checks, not-loaded, unless-refused, load-contents, load-trailer, load, settle-load, load-over}
+use Rattle.seats.specs.Images.{least-image, distance, far-at, counts-at, restored, entry-checks, content-checks, loaded, not-loaded, unless-refused, load-contents, load-trailer, load, settle-load, load-over, measured, unmeasured, measure-loaded, measure}
 use Rattle.seats.specs.Demands.{contents-in, load-checks}
+use Rattle.seats.proofs.LoadedSaves.{image-far}
 
 -- At most is not above.
 not-above : (m n : ℕ) → leb m n ≡ not (ltb n m)
@@ -56,3 +59,28 @@ load-settles s l = ap (settle-load s) (load-judged l) ∙ settled-load s (restor
 pub load-checks-ascend : (l : List ℕ) → ascending-numbers (load-checks l) ≡ true
 unfolding ascending-numbers ascending-from load-checks entry-checks content-checks
 load-checks-ascend l = refl
+
+-- ---- measuring
+
+measured-by : (v : Verdict) (h : State) (n p : ℕ) → (measure-loaded (unless-refused v h) ≡ unmeasured n p) ↔ (v ≡ refusing.refused n p)
+unfolding measure-loaded unless-refused
+measured-by passed h n p = (λ e. absurd (let z : _≡_ {A = ℕ} 0 1 = cc in omega arith), λ e. absurd (let z : _≡_ {A = ℕ} 0 1 = cc in omega arith))
+measured-by (refusing.refused m k) h n p = (
+  λ e. let a : m ≡ n = cc in let b : k ≡ p = cc in rw (a, b),
+  λ e. let a : m ≡ n = cc in let b : k ≡ p = cc in rw (a, b),
+)
+
+-- An image is measured with the refusals of loading.
+pub measure-refuses : (l : List ℕ) (n p : ℕ) → (measure l ≡ unmeasured n p) ↔ (verdict (load-checks l) ≡ refusing.refused n p)
+unfolding measure
+measure-refuses l n p =
+    let e = ap measure-loaded (load-judged l) in
+    let z = measured-by (verdict (load-checks l)) (restored (contents-in l)) n p in
+    (λ q. z .0 (sym e ∙ q), λ q. e ∙ z .1 q)
+
+-- Bytes that load are measured as the distance in their trailer.
+pub measure-loads : (l : List ℕ) → Bytes l → verdict (load-checks l) ≡ passed → measure l ≡ measured (far-at l (length l))
+unfolding measure measure-loaded unless-refused
+measure-loads l b v =
+    let q : load l ≡ loaded (restored (contents-in l)) = load-judged l ∙ ap (λ (w : Verdict). unless-refused w (restored (contents-in l))) v in
+    ap measure-loaded q ∙ ap measured (image-far l b (restored (contents-in l)) q .1)

@@ -9,12 +9,16 @@ use Rattle.seats.specs.Bytes as bytes
 use Rattle.seats.specs.Seats as seats
 use Rattle.seats.specs.Calls.{accepted, answered, refused}
 use Rattle.seats.specs.Calls as calls
+use Rattle.seats.specs.Images.{measured, unmeasured}
+use Rattle.seats.specs.Images as images
 use Rattle.seats.specs.Tape.{PartAnswer, fills, uncounted}
 use Rattle.seats.specs.Demands.{One, read-outcome, read-left, read-part-left}
-use Rattle.seats.specs.Reading.{read-answer, read-filled, read-part}
+use Rattle.seats.specs.Reading.{read-answer, read-filled, read-measured, read-part}
 use Rattle.seats.specs.declared.State.{State}
 use Rattle.seats.specs.declared.Answer.{Answer}
 use Rattle.seats.specs.declared.Answer.the-variants as answers
+use Rattle.seats.specs.declared.Measured.{Measured}
+use Rattle.seats.specs.declared.Measured.the-variants as measures
 use Rattle.seats.specs.declared.Filled.{Filled}
 use Rattle.seats.specs.declared.Filled.the-variants as fillings
 use Rattle.seats.specs.declared.PartAnswer as part-enum
@@ -54,6 +58,14 @@ one-outcome y = one read-outcome (λ y. (write-answer (y .0), write-state (y .1)
 
 pub one-left : (y : bytes.Filled × List ℕ) → One read-left (λ z. read-left z ≡ y)
 one-left y = one read-left (λ y. (write-filled (y .0), y .1)) (λ y. ap (λ (f : bytes.Filled). (f, y .1)) (filled-written (y .0))) y
+
+write-measured : images.Measured → Measured
+write-measured (measured n) = measures.Length n
+write-measured (unmeasured n p) = measures.Refused (record { number = n; place = p })
+
+pub one-measured : (y : images.Measured) → One read-measured (λ m. read-measured m ≡ y)
+unfolding read-measured write-measured
+one-measured = one read-measured write-measured (λ y. elim y [ measured n ↦ refl | unmeasured n p ↦ refl ])
 
 write-part : PartAnswer → part-enum.PartAnswer
 write-part (fills (written n)) = part-answers.Written n

@@ -22,15 +22,16 @@ use Rattle.seats.specs.Seats as seats
 use Rattle.seats.specs.Calls.{Call, change, declare, assign, accepted, refused, seat-role-checks, checks, after, reply, is-refusal}
 use Rattle.seats.specs.Calls as calls
 use Rattle.seats.specs.Records.{Decoded, malformed, well-formed, decode}
-use Rattle.seats.specs.Images.{least-image, Contents, distance, far-at, counts-at, contents, restored, image, entry-checks, content-checks}
+use Rattle.seats.specs.Images.{least-image, Contents, distance, far-at, counts-at, contents, restored, image, entry-checks, content-checks, measured, unmeasured}
 use Rattle.seats.specs.Lists.{answers, end, presence, declaration, assignment}
 use Rattle.seats.specs.Tape.{records, lines, PartAnswer, fills, uncounted, joined}
 use Rattle.seats.specs.ListTheorem.{Start}
-use Rattle.seats.specs.Promises.{StepPromise, LoadPromise, SavePromise, FeedPromise, KeeperStart, DemandThreeOnCode}
-use Rattle.seats.specs.Reading.{read-state, read-answer, read-filled, read-part, read-fed}
+use Rattle.seats.specs.Promises.{StepPromise, LoadPromise, MeasurePromise, SavePromise, FeedPromise, KeeperStart, DemandThreeOnCode}
+use Rattle.seats.specs.Reading.{read-state, read-answer, read-filled, read-measured, read-part, read-fed}
 use Rattle.seats.specs.declared.State.{State}
 use Rattle.seats.specs.declared.Answer.{Answer}
 use Rattle.seats.specs.declared.Filled.{Filled}
+use Rattle.seats.specs.declared.Measured.{Measured}
 use Rattle.seats.specs.declared.Fed.{Fed}
 
 -- ---- what the demands are said with
@@ -154,6 +155,8 @@ pub record DemandOne : Type 0 where
   pub call-answered : (s : State) (l : List ℕ) → One read-outcome (λ z. StepPromise s l (z .0) (z .1))
   -- So there is to every load, whatever the bytes and the state at hand.
   pub load-answered : (s : State) (l : List ℕ) → One read-outcome (λ z. LoadPromise s l (z .0) (z .1))
+  -- So there is to every measuring of bytes.
+  pub measure-answered : (l : List ℕ) → One read-measured (MeasurePromise l)
   -- So there is to every save, with the buffer as it leaves it.
   pub save-answered : (s : seats.State) (buffer : List ℕ) → One read-left (λ z. SavePromise s buffer (z .0) (z .1))
   -- So there is to every part of a tape, with the buffer, the records so far and the state.
@@ -214,6 +217,10 @@ pub record DemandTwo : Type 0 where
   -- It is accepted exactly where none holds, and gives the state that the image's entries describe.
   pub load-accepted-iff : (s t : State) (l : List ℕ) (a : Answer) → LoadPromise s l a t → (read-answer a ≡ accepted) ↔ None (load-checks l)
   pub load-accepted : (s t : State) (l : List ℕ) (a : Answer) → LoadPromise s l a t → read-answer a ≡ accepted → read-state t ≡ restored (contents-in l)
+  -- Measuring is refused with a number and a place exactly where loading is.
+  pub measure-refused-iff : (l : List ℕ) (m : Measured) (n p : ℕ) → MeasurePromise l m → (read-measured m ≡ unmeasured n p) ↔ First (load-checks l) n p
+  -- Otherwise the image is as long as its trailer says.
+  pub measure-accepted : (l : List ℕ) (m : Measured) → Bytes l → MeasurePromise l m → None (load-checks l) → read-measured m ≡ measured (far-at l (length l))
   -- A save is refused exactly where the buffer has fewer bytes than the image.
   pub save-refused-iff : (s : seats.State) (buffer left : List ℕ) (f : Filled) (n p : ℕ) → SavePromise s buffer f left
       → (read-filled f ≡ too-short n p) ↔ ((n ≡ 9) × (p ≡ 0) × (length buffer < length (image s)))
