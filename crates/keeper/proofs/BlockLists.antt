@@ -2,33 +2,37 @@
 -- Assumes nothing.
 use mathlib.Core.Path.{_≡_, refl, sym, ap, ap₂, _∙_, subst}
 use mathlib.Core.Bool.{Bool, true, false}
-use mathlib.Core.Logic.{inl, inr}
-use mathlib.Core.List.{List, [], _∷_, map, map-id}
-use Prim.Native.Nat.{ℕ, _+_, _*_, _≤_}
+use mathlib.Core.Logic.{_↔_, inl, inr}
+use mathlib.Core.List.{List, [], _∷_, _++_, map, map-id}
+use Prim.Native.Nat.{ℕ, _+_, _*_, _<_, _≤_}
 use native.Mathlib.Omega.{arith}
 use borrow.Author.Tests.{le-leb}
-use lib.ListN.{length, drop}
+use lib.ListN.{length, take, drop}
 use lib.Dec.{T, leb, leb→le}
 use Rattle.sets.proofs.Tests.{passes, fails, decide}
 use Rattle.lists.specs.Runs.{run, Each, Chain}
 use Rattle.lists.proofs.Runs.{chain-runs, chain-unrefused}
-use Rattle.graph.specs.Drawing.{edge}
-use Rattle.seats.specs.Bytes.{Bytes}
+use Rattle.graph.specs.Drawing.{edge, edge-count}
+use Rattle.seats.specs.Bytes.{Bytes, Filled, written, too-short}
 use Rattle.seats.specs.Seats.{State}
 use Rattle.seats.specs.Calls.{Answer, accepted, answered, refused, is-refusal}
 use Rattle.seats.specs.Records.{step}
 use Rattle.seats.specs.Images.{Loaded, loaded, not-loaded, load, settle-load, load-over}
+use Rattle.seats.specs.Saving.{save}
+use Rattle.seats.specs.Invariants.{Invariant}
 use Rattle.seats.specs.Tape.{answer-number, answer-place}
 use Rattle.seats.specs.Lists.{answers, end}
-use Rattle.seats.specs.ListTheorem.{Start, from-fresh, from-image}
+use Rattle.seats.specs.ListTheorem.{Start, from-fresh, from-image, MayUse}
 use Rattle.seats.proofs.Settling.{refused-leaves}
 use Rattle.seats.proofs.ListTheorem.{list-theorem}
 use Rattle.seats.proofs.RecordVerdict.{record-refused}
+use Rattle.seats.proofs.SaveOutcomes.{front-loads}
 use Rattle.seats.proofs.LoadRefusals.{load-refusals}
-use Rattle.keeper.specs.Block.{block-length, state-in, holding, of-state, code-of, no-state}
-use Rattle.keeper.specs.Exports.{given, call-block, load-block, fresh-block}
-use Rattle.keeper.specs.BlockLists.{CallPromise, LoadPromise, BlockStart, made-fresh, made-by-loading, refused-code, BlockTheorem, DemandsOnBlocks}
+use Rattle.keeper.specs.Block.{block-length, state-in, holding, of-state, code-of, no-state, not-saved, save-code}
+use Rattle.keeper.specs.Exports.{given, call-block, load-block, fresh-block, save-block, may-block, edge-count-block}
+use Rattle.keeper.specs.BlockLists.{CallPromise, LoadPromise, SavePromise, BlockStart, made-fresh, made-by-loading, refused-code, BlockTheorem, DemandsOnBlocks}
 use Rattle.keeper.proofs.BlockWords.{holds-own}
+use Rattle.keeper.proofs.Asking.{may-iff}
 use Rattle.keeper.proofs.BlockStates.{load-holds, load-length, load-code, fresh-holds, fresh-length, call-length, call-behind, list-on-block}
 
 -- ---- refusals
@@ -118,24 +122,61 @@ unfolding run
 list-behind W [] n = refl
 list-behind W (r ∷ l) n = list-behind (call-block W r .1) l (omega (arith, call-length W r n)) ∙ call-behind W r n
 
+-- So does the block's length.
+list-length : (W : List ℕ) (l : List (List ℕ)) → block-length ≤ length W → length (run call-block W l .1) ≡ length W
+unfolding run
+list-length W [] n = refl
+list-length W (r ∷ l) n = list-length (call-block W r .1) l (omega (arith, call-length W r n)) ∙ call-length W r n
+
 -- A chain of promises is the run of what they promise.
 runs : (W X : List ℕ) (l : List (List ℕ)) (m : List ℕ) → Chain CallPromise W l m X → run call-block W l ≡ (m, X)
 runs W X l m chain = chain-runs call-block (λ (Y : List ℕ). Y) (λ (r : ℕ). r) CallPromise (λ c r b d p. sym p) chain ∙ ap (λ (k : List ℕ). (k, X)) (map-id m)
+
+shows-edges : (W : List ℕ) → block-length ≤ length W → edge-count-block W ≡ edge-count (state-in W .graph)
+unfolding edge-count-block of-state
+shows-edges W n = rw (le-leb block-length (length W) n)
 
 every-chain : (W X : List ℕ) (l : List (List ℕ)) (m : List ℕ) → BlockStart W → Each Bytes l → Chain CallPromise W l m X → BlockTheorem W l m X
 every-chain W X l m from b chain =
     let (n, s) = start W from in
     let z = runs W X l m chain in
     let (p, q) = list-on-block W l n in
+    let k : block-length ≤ length X = omega (arith, list-length W l n, ap (λ (y : List ℕ × List ℕ). length (y .1)) z) in
     let e : state-in X ≡ end (state-in W) l = ap (λ (y : List ℕ × List ℕ). state-in (y .1)) (sym z) ∙ q in
     record {
       same-codes = ap (λ (y : List ℕ × List ℕ). y .0) (sym z) ∙ p;
       same-refusals = ap (map refused-code) (ap (λ (y : List ℕ × List ℕ). y .0) (sym z) ∙ p) ∙ codes-tell (state-in W) l;
       same-end = e;
       same-edges = λ r t. ap (λ (y : State). edge (y .graph) r t) e;
+      same-asks = λ i p. subst (λ (y : State). (may-block X i p ≡ true) ↔ MayUse y i p) e (may-iff X i p k);
+      same-edge-count = shows-edges X k ∙ ap (λ (y : State). edge-count (y .graph)) e;
       same-rest = ap (λ (y : List ℕ × List ℕ). drop block-length (y .1)) (sym z) ∙ list-behind W l n;
       definitions = list-theorem (state-in W) s l b;
     }
+
+-- ---- saved and loaded
+
+-- A save that answers with a length has written the image.
+saved : (W buffer left : List ℕ) (r : ℕ) → block-length ≤ length W → SavePromise W buffer r left → r < not-saved → (written r, left) ≡ save (state-in W) buffer
+unfolding save-block of-state save-code
+saved W buffer left r n e l =
+    let s = state-in W in
+    let z : _≡_ {A = ℕ × List ℕ} (r, left) (save-code (save s buffer .0), save s buffer .1) = e ∙ rw (le-leb block-length (length W) n) in
+    ap₂ (λ (x : Filled) (y : List ℕ). (x, y)) (sym (go (save s buffer .0) (sym (ap (λ (y : ℕ × List ℕ). y .0) z)))) (ap (λ (y : ℕ × List ℕ). y .1) z)
+  where
+    go : (f : Filled) → save-code f ≡ r → f ≡ written r
+    go (written k) q = ap written q
+    go (too-short k p) q = absurd (omega arith)
+
+reloads : (s : State) → Invariant s → (buffer left before Y Z : List ℕ) (r q : ℕ) → (written r, left) ≡ save s buffer → block-length ≤ length Y → LoadPromise Y (before ++ take r left) q Z
+    → (q ≡ 0) × (state-in Z ≡ s)
+unfolding code-of answer-number answer-place
+reloads s v buffer left before Y Z r q e n p =
+    let l = before ++ take r left in
+    let z = front-loads s buffer left (written r) e r refl v (state-in Y) before in (
+      ap (λ (y : ℕ × List ℕ). y .0) p ∙ load-code Y l n ∙ ap (λ (y : Answer × State). code-of (y .0)) z,
+      ap (λ (y : ℕ × List ℕ). state-in (y .1)) p ∙ load-holds Y l n ∙ ap (λ (y : Answer × State). y .1) z,
+    )
 
 refused-stays : (W l : List ℕ) → T (refused-code (call-block W l .0)) → call-block W l .1 ≡ W
 unfolding refused-code
@@ -149,4 +190,9 @@ demands-on-blocks = record {
   shorter-chain = λ W X Y l m k chain shorter.
       let (x, y) = chain-unrefused call-block refused-code refused-stays (λ (Z : List ℕ). Z) (λ (r : ℕ). r) CallPromise (λ c r b d p. sym p) chain shorter in
       (sym (map-id k) ∙ x ∙ map-id _, y);
+  saved-loads = λ W X l m from b chain buffer left before Y Z r q e u n p.
+      let t = every-chain W X l m from b chain in
+      let (k, _) = start W from in
+      let h : block-length ≤ length X = omega (arith, list-length W l k, ap (λ (y : List ℕ × List ℕ). length (y .1)) (runs W X l m chain)) in
+      reloads (state-in X) (subst Invariant (sym (t .same-end)) (t .definitions .invariant)) buffer left before Y Z r q (saved X buffer left r h e u) n p;
 }

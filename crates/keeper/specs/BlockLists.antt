@@ -1,18 +1,19 @@
 -- The demands on the exported functions: a list of records given one by one to keeper_call on one block, and what a refusal leaves.
 use mathlib.Core.Path.{_≡_}
-use mathlib.Core.Bool.{Bool}
-use mathlib.Core.List.{List, map}
-use Prim.Native.Nat.{ℕ, _≤_}
-use lib.ListN.{length, drop}
+use mathlib.Core.Bool.{Bool, true}
+use mathlib.Core.Logic.{_↔_}
+use mathlib.Core.List.{List, _++_, map}
+use Prim.Native.Nat.{ℕ, _<_, _≤_}
+use lib.ListN.{length, take, drop}
 use lib.Dec.{leb}
 use Rattle.lists.specs.Runs.{unrefused, Each, Chain}
-use Rattle.graph.specs.Drawing.{edge}
+use Rattle.graph.specs.Drawing.{edge, edge-count}
 use Rattle.seats.specs.Bytes.{Bytes}
 use Rattle.seats.specs.Calls.{is-refusal}
 use Rattle.seats.specs.Lists.{answers, end}
-use Rattle.seats.specs.ListTheorem.{ListTheorem}
-use Rattle.keeper.specs.Block.{block-length, state-in, code-of}
-use Rattle.keeper.specs.Exports.{fresh-block, call-block, load-block}
+use Rattle.seats.specs.ListTheorem.{MayUse, ListTheorem}
+use Rattle.keeper.specs.Block.{block-length, state-in, code-of, not-saved}
+use Rattle.keeper.specs.Exports.{fresh-block, call-block, load-block, save-block, may-block, edge-count-block}
 
 -- From the block W, keeper_fresh answers r and leaves the block X.
 abbrev pub FreshPromise : List ℕ → ℕ → List ℕ → Type 0
@@ -25,6 +26,10 @@ CallPromise W l r X = (r, X) ≡ call-block W l
 -- By the bytes l, keeper_load does.
 abbrev pub LoadPromise : List ℕ → List ℕ → ℕ → List ℕ → Type 0
 LoadPromise W l r X = (r, X) ≡ load-block W l
+
+-- With the buffer, keeper_save answers r and leaves the buffer `left`.
+abbrev pub SavePromise : List ℕ → List ℕ → ℕ → List ℕ → Type 0
+SavePromise W buffer r left = (r, left) ≡ save-block W buffer
 
 -- A block with words for a state starts with what keeper_fresh leaves, or with what a keeper_load that answers 0 leaves.
 pub data BlockStart : List ℕ → Type 0 where
@@ -44,6 +49,9 @@ pub record BlockTheorem (W : List ℕ) (l : List (List ℕ)) (m : List ℕ) (X :
   -- The state in the block at the end is theirs, roles, sets, conflicts and seats, and so are its edges.
   pub same-end : state-in X ≡ end (state-in W) l
   pub same-edges : (r s : ℕ) → edge (state-in X .graph) r s ≡ edge (end (state-in W) l .graph) r s
+  -- What keeper_may then says is what kind 12, given next, answers, and what keeper_edge_count says is how many edges are drawn.
+  pub same-asks : (i p : ℕ) → (may-block X i p ≡ true) ↔ MayUse (end (state-in W) l) i p
+  pub same-edge-count : edge-count-block X ≡ edge-count (end (state-in W) l .graph)
   -- The words behind the state stay.
   pub same-rest : drop block-length X ≡ drop block-length W
   -- And all of the list theorem holds of them.
@@ -58,3 +66,7 @@ pub record DemandsOnBlocks : Type 1 where
   -- The list without its refused records, on the same block, gives the others the numbers they had and leaves the same words.
   pub shorter-chain : (W X Y : List ℕ) (l : List (List ℕ)) (m k : List ℕ) → Chain CallPromise W l m X → Chain CallPromise W (unrefused refused-code l m) k Y
       → (k ≡ unrefused refused-code m m) × (Y ≡ X)
+  -- What keeper_save writes of the block at the list's end, given to keeper_load behind any bytes on any block with words for a state, is accepted and puts that state there.
+  pub saved-loads : (W X : List ℕ) (l : List (List ℕ)) (m : List ℕ) → BlockStart W → Each Bytes l → Chain CallPromise W l m X
+      → (buffer left before Y Z : List ℕ) (r q : ℕ) → SavePromise X buffer r left → r < not-saved → block-length ≤ length Y → LoadPromise Y (before ++ take r left) q Z
+      → (q ≡ 0) × (state-in Z ≡ state-in X)
