@@ -11,9 +11,9 @@ ghost use Rattle.graph.specs.Refusing.{passed, verdict};
 ghost use Rattle.graph.specs.Refusing as refusing;
 ghost use Rattle.graph.specs.Reading.{sets-in, drawn-from};
 ghost use Rattle.seats.specs.Seats.{seat-count};
-ghost use Rattle.seats.specs.Images.{set-bytes, role-set-bytes, privilege-bytes, role-width, conflict-width, seat-width, distance, entries-at, contents, content-checks, trailer-length, far-at, load, not-loaded, judged, measure};
-ghost use Rattle.seats.specs.Reading.{state-of, read-image, read-measured, read-state, read-counts};
-ghost use Rattle.seats.specs.Promises.{LoadPromise};
+ghost use Rattle.seats.specs.Images.{set-bytes, role-set-bytes, privilege-bytes, role-width, conflict-width, seat-width, distance, entries-at, contents, content-checks, trailer-length, far-at, load, not-loaded, judged};
+ghost use Rattle.seats.specs.Reading.{state-of, read-image, read-state, read-counts};
+ghost use Rattle.seats.specs.Promises.{LoadPromise, MeasurePromise};
 ghost use Rattle.seats.specs.ImageWork.{Roles, Conflicts, Seats, entry-at, value-bytes, part-width, entry-place, entry-passes, store-entries, table-in, EntryTaken, EntriesRead, ContentsRead};
 use crate::Answer;
 use crate::Counts;
@@ -386,7 +386,7 @@ pub fn load(state: State, bytes: &[u8]) -> Loaded
 
 // How long the image is that ends the bytes, or the refusal of loading it.
 pub fn image_length(bytes: &[u8]) -> Measured
-    ensures { λ r. ⌜ read-measured r ≡ measure (now (bytes .entry)) ⌝ }
+    ensures { λ r. ⌜ MeasurePromise (now (bytes .entry)) r ⌝ }
 {
     let image = read_image(bytes);
     let verdict = image.verdict;

@@ -14,8 +14,8 @@ ghost use Rattle.seats.specs.Seats.{seat-count};
 ghost use Rattle.seats.specs.Bytes.{bytes-of};
 ghost use Rattle.seats.specs.Written.{Written};
 ghost use Rattle.seats.specs.Images.{privilege-bytes, entry-bytes, trailer-length, trailer};
-ghost use Rattle.seats.specs.Saving.{save};
-ghost use Rattle.seats.specs.Reading.{state-of, read-counts, read-filled};
+ghost use Rattle.seats.specs.Promises.{SavePromise};
+ghost use Rattle.seats.specs.Reading.{state-of, read-counts};
 ghost use Rattle.seats.specs.ImageWork.{Small, value-bytes, part-width, value-of, part-entries, row-entries, pair-entries};
 use crate::Counts;
 use crate::Filled;
@@ -151,7 +151,7 @@ pub fn save<'a>(
     seats: &'a [u64],
     buffer: &mut [u8],
 ) -> Filled
-    ensures { λ r. ⌜ (read-filled r, now (buffer .exit)) ≡ save (state-of roles (now (sets .entry)) (now (conflicts .entry)) (now (seats .entry))) (now (buffer .entry)) ⌝ }
+    ensures { λ r. ⌜ SavePromise (state-of roles (now (sets .entry)) (now (conflicts .entry)) (now (seats .entry))) (now (buffer .entry)) r (now (buffer .exit)) ⌝ }
 {
     let ordinary = ordinary_roles(roles);
     let taken = occupied(seats);

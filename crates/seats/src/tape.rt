@@ -4,10 +4,10 @@ ghost use mathlib.Core.Bool.{_||_};
 ghost use Prim.Native.Nat.{_+_, _*_, _^_, _<_};
 ghost use lib.Dec.{leb};
 ghost use lib.ListN.{length};
-ghost use Rattle.seats.specs.Promises.{FreshPromise};
+ghost use Rattle.seats.specs.Promises.{FreshPromise, FeedPromise};
 ghost use Rattle.seats.specs.Working.{record-count, longest-line};
-ghost use Rattle.seats.specs.Tape.{records, fed, feed};
-ghost use Rattle.seats.specs.Reading.{read-state, read-fed};
+ghost use Rattle.seats.specs.Tape.{records, fed};
+ghost use Rattle.seats.specs.Reading.{read-state};
 use crate::Fed;
 use crate::PartAnswer;
 use crate::State;
@@ -51,7 +51,7 @@ fn can_feed(state: State, count: u64, part: &[u8], room: usize) -> bool
 
 // A part of a tape, after so many records and from the state that they left.
 pub fn feed(state: State, count: u64, part: &[u8], buffer: &mut [u8]) -> Fed
-    ensures { λ r. ⌜ read-fed r (now (buffer .exit)) ≡ feed (read-state state) count (now (part .entry)) (now (buffer .entry)) ⌝ }
+    ensures { λ r. ⌜ FeedPromise state count (now (part .entry)) (now (buffer .entry)) r (now (buffer .exit)) ⌝ }
 {
     if u64::MAX - count < record_count(part.len()) as u64 {
         return Fed {
