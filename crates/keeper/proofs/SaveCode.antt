@@ -2,7 +2,7 @@
 -- Assumes nothing.
 use mathlib.Core.Path.{_≡_, ap, _∙_}
 use mathlib.Core.Logic.{inl, inr}
-use mathlib.Core.List.{List}
+use mathlib.Core.List.{List, _++_}
 use Prim.Native.Nat.{ℕ, _≤_}
 use native.Mathlib.Omega.{arith}
 use lib.ListN.{length}
@@ -12,8 +12,11 @@ use Rattle.seats.specs.Bytes.{Filled, written, fill}
 use Rattle.seats.specs.Seats.{State}
 use Rattle.seats.specs.Images.{image, Loaded, loaded, not-loaded, load, measured, measure-loaded, measure}
 use Rattle.seats.specs.Saving.{save}
+use Rattle.seats.specs.Invariants.{Invariant}
 use Rattle.seats.proofs.ImageLength.{image-bound}
-use Rattle.keeper.specs.Block.{save-code}
+use Rattle.seats.proofs.SavedLoads.{loads-back}
+use Rattle.keeper.specs.Block.{save-code, length-code}
+use Rattle.keeper.specs.Exports.{image-length}
 
 -- A length that a save answers is at most that of the longest image.
 pub written-le : (s : State) (buffer : List ℕ) (n : ℕ) {f : Filled} {X : List ℕ} → f ≡ written n → (f, X) ≡ save s buffer → n ≤ 5182
@@ -39,3 +42,8 @@ measured-le l n e = go (load l) e
     go : (x : Loaded) → measured n ≡ measure-loaded x → n ≤ 5182
     go (loaded s) q = let o : n ≡ length (image s) = cc in omega (arith, image-bound s)
     go (not-loaded k p) q = let z : _≡_ {A = ℕ} 0 1 = cc in omega arith
+
+-- Of a saved image, alone or with other bytes before it, its own length is told.
+pub saved-length : (s : State) → Invariant s → (before : List ℕ) → image-length (before ++ image s) ≡ length (image s)
+unfolding image-length length-code measure measure-loaded
+saved-length s v before = ap (λ (x : Loaded). length-code (measure-loaded x)) (loads-back s v before)
