@@ -11,7 +11,7 @@ use Rattle.lists.proofs.Runs.{chain-unrefused}
 use Rattle.graph.specs.Graph.{role-count, present, ordinary, effective}
 use Rattle.graph.specs.Drawing.{below, edge, direct, redraw}
 use Rattle.graph.specs.Editing.{Change, edit, changed}
-use Rattle.graph.specs.Refusing.{input-checks, state-checks}
+use Rattle.graph.specs.Refusing.{Verdict, verdict, input-checks, state-checks}
 use Rattle.graph.proofs.Closing.{Laid, closed-equation, closed-unique}
 use Rattle.graph.proofs.Edits.{laid}
 use Rattle.graph.proofs.Refusals.{Passes, parts, verdict-passes, lowest-number}
@@ -20,7 +20,7 @@ use Rattle.seats.specs.Seats as seats
 use Rattle.seats.specs.Calls.{Call, change, declare, lift, assign, unassign, ask, accepted, refused, checks, with-graph, with-conflicts, with-seats, after, is-refusal}
 use Rattle.seats.specs.Calls as calls
 use Rattle.seats.specs.Records.{well-formed, decode, step}
-use Rattle.seats.specs.Images.{least-image, image, far-at, restored, Loaded, loaded, not-loaded, load, load-over, settle-load, measure}
+use Rattle.seats.specs.Images.{least-image, image, far-at, restored, Loaded, loaded, not-loaded, load, judged, load-over, settle-load, measure}
 use Rattle.seats.specs.Saving.{save}
 use Rattle.seats.specs.Lists.{end}
 use Rattle.seats.specs.Tape.{records, feed}
@@ -28,7 +28,7 @@ use Rattle.seats.specs.Tape.{records}
 use Rattle.seats.specs.Promises.{StepPromise, LoadPromise}
 use Rattle.seats.specs.Demands.{read-outcome, refuses, OfLoad, contents-in, load-checks, Reached, ChangedBy, Closes, Says, DemandOne, DemandTwo, DemandThreeWithShorter, Demands}
 use Rattle.seats.specs.Invariants.{Invariant}
-use Rattle.seats.specs.Reading.{read-state, read-answer, read-filled}
+use Rattle.seats.specs.Reading.{read-state, read-answer, read-filled, read-image}
 use Rattle.seats.specs.declared.State.{State}
 use Rattle.seats.specs.declared.Answer.{Answer}
 use Rattle.seats.proofs.Settling.{refused-leaves}
@@ -41,9 +41,9 @@ use Rattle.seats.proofs.FirstChecks.{first-refuses, refuses-first, none
 use Rattle.seats.proofs.RecordVerdict.{record-refused-iff, record-refused, record-accepted-iff, record-lowest, record-accepted, record-passes}
 use Rattle.seats.proofs.WholeChecks.{declare-by-whole, assign-by-whole}
 use Rattle.seats.proofs.LoadRefusals.{load-refusals}
-use Rattle.seats.proofs.LoadVerdict.{load-checks-ascend, load-settles, measure-refuses, measure-loads}
+use Rattle.seats.proofs.LoadVerdict.{load-checks-ascend, load-settles, read-judged, read-passed, measure-refuses, measure-loads}
 use Rattle.seats.proofs.ImageAlone.{load-alone}
-use Rattle.seats.proofs.OneOutcome.{one-outcome, one-measured, one-left, one-part}
+use Rattle.seats.proofs.OneOutcome.{one-outcome, one-image, one-measured, one-left, one-part}
 use Rattle.seats.proofs.TapeRecords.{answers-count}
 use Rattle.seats.proofs.PartOutcomes.{refused-part, uncounted-part, refused-part-iff, uncounted-part-iff, accepted-part, records-joined}
 use Rattle.seats.proofs.SaveOutcomes.{no-written, same-short, has-room, no-room, saves, front-loads, front-same}
@@ -81,6 +81,7 @@ pub demand-one : DemandOne
 demand-one = record {
   call-answered = λ s l. one-outcome (step (read-state s) l);
   load-answered = λ s l. one-outcome (load-over (read-state s) l);
+  read-answered = λ l. one-image (judged (load l));
   measure-answered = λ l. one-measured (measure l);
   save-answered = λ s buffer. one-left (save s buffer);
   part-answered = λ s count part buffer. one-part (feed (read-state s) count part buffer);
@@ -171,6 +172,12 @@ demand-two = record {
         λ x. by-part (z .accepted-gives (z .accepted-iff .1 x)) .0,
       );
   load-accepted = λ s t l a e r. by-part (load-settled s t l a e .accepted-gives (no-refusal a r)) .1;
+  read-refused-iff = λ l r n p e.
+      let q : read-image r .0 ≡ verdict (load-checks l) = ap (λ (x : Verdict × seats.State). x .0) e ∙ read-judged l in (
+        λ w. refuses-first (load-checks l) n p (sym q ∙ w),
+        λ f. q ∙ first-refuses (load-checks l) n p f,
+      );
+  read-accepted = λ l r e t. e ∙ read-passed l (verdict-passes (load-checks l) (none-passes (load-checks l) t));
   measure-refused-iff = λ l m n p e. (
     λ r. refuses-first (load-checks l) n p (measure-refuses l n p .0 (sym e ∙ r)),
     λ f. e ∙ measure-refuses l n p .1 (first-refuses (load-checks l) n p f),

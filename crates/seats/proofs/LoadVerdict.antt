@@ -16,7 +16,8 @@ use Rattle.lists.specs.Settling as settling
 use Rattle.seats.specs.Bytes.{Bytes}
 use Rattle.seats.specs.Seats.{State}
 use Rattle.seats.specs.Calls.{accepted, judged, settle}
-use Rattle.seats.specs.Images.{least-image, distance, far-at, counts-at, restored, entry-checks, content-checks, loaded, not-loaded, unless-refused, load-contents, load-trailer, load, settle-load, load-over, measured, unmeasured, measure-loaded, measure}
+use Rattle.seats.specs.Images.{least-image, distance, far-at, counts-at, restored, entry-checks, content-checks, Loaded, loaded, not-loaded, unless-refused, load-contents, load-trailer, load, settle-load, load-over, measured, unmeasured, measure-loaded, measure}
+use Rattle.seats.specs.Images as images
 use Rattle.seats.specs.Demands.{contents-in, load-checks}
 use Rattle.seats.proofs.LoadedSaves.{image-far}
 
@@ -60,7 +61,20 @@ pub load-checks-ascend : (l : List ℕ) → ascending-numbers (load-checks l) �
 unfolding ascending-numbers ascending-from load-checks entry-checks content-checks
 load-checks-ascend l = refl
 
--- ---- measuring
+-- ---- reading and measuring
+
+judged-by : (v : Verdict) (h : State) → images.judged (unless-refused v h) .0 ≡ v
+unfolding images.judged unless-refused
+judged-by passed h = refl
+judged-by (refusing.refused n p) h = refl
+
+-- An image is read with the verdict of loading, and as the state that its entries describe where nothing refuses it.
+pub read-judged : (l : List ℕ) → images.judged (load l) .0 ≡ verdict (load-checks l)
+read-judged l = ap (λ (x : Loaded). images.judged x .0) (load-judged l) ∙ judged-by (verdict (load-checks l)) (restored (contents-in l))
+
+pub read-passed : (l : List ℕ) → verdict (load-checks l) ≡ passed → images.judged (load l) ≡ (passed, restored (contents-in l))
+unfolding images.judged unless-refused
+read-passed l v = ap images.judged (load-judged l ∙ ap (λ (w : Verdict). unless-refused w (restored (contents-in l))) v)
 
 measured-by : (v : Verdict) (h : State) (n p : ℕ) → (measure-loaded (unless-refused v h) ≡ unmeasured n p) ↔ (v ≡ refusing.refused n p)
 unfolding measure-loaded unless-refused

@@ -3,7 +3,11 @@
 use mathlib.Core.Path.{_≡_, refl, sym, ap, _∙_}
 use mathlib.Core.List.{List, []}
 use Prim.Native.Nat.{ℕ}
-use Rattle.graph.specs.Reading.{sets-in}
+use Rattle.graph.specs.Refusing.{Verdict, passed}
+use Rattle.graph.specs.Refusing as refusing
+use Rattle.graph.specs.Reading.{sets-in, read-verdict}
+use Rattle.graph.specs.declared.Verdict as verdict-enum
+use Rattle.graph.specs.declared.Verdict.the-variants as verdicts
 use Rattle.seats.specs.Bytes.{written, too-short}
 use Rattle.seats.specs.Bytes as bytes
 use Rattle.seats.specs.Seats as seats
@@ -13,7 +17,7 @@ use Rattle.seats.specs.Images.{measured, unmeasured}
 use Rattle.seats.specs.Images as images
 use Rattle.seats.specs.Tape.{PartAnswer, fills, uncounted}
 use Rattle.seats.specs.Demands.{One, read-outcome, read-left, read-part-left}
-use Rattle.seats.specs.Reading.{read-answer, read-filled, read-measured, read-part}
+use Rattle.seats.specs.Reading.{read-answer, read-filled, read-image, read-measured, read-part}
 use Rattle.seats.specs.declared.State.{State}
 use Rattle.seats.specs.declared.Answer.{Answer}
 use Rattle.seats.specs.declared.Answer.the-variants as answers
@@ -66,6 +70,19 @@ write-measured (unmeasured n p) = measures.Refused (record { number = n; place =
 pub one-measured : (y : images.Measured) → One read-measured (λ m. read-measured m ≡ y)
 unfolding read-measured write-measured
 one-measured = one read-measured write-measured (λ y. elim y [ measured n ↦ refl | unmeasured n p ↦ refl ])
+
+write-verdict : Verdict → verdict-enum.Verdict
+write-verdict passed = verdicts.Passed
+write-verdict (refusing.refused n p) = verdicts.Refused (record { number = n; place = p })
+
+verdict-written : (v : Verdict) → read-verdict (write-verdict v) ≡ v
+unfolding read-verdict write-verdict
+verdict-written passed = refl
+verdict-written (refusing.refused n p) = refl
+
+pub one-image : (y : Verdict × seats.State) → One read-image (λ r. read-image r ≡ y)
+unfolding write-state sets-in
+one-image = one read-image (λ y. record { verdict = write-verdict (y .0); state = write-state (y .1) }) (λ y. ap (λ (v : Verdict). (v, y .1)) (verdict-written (y .0)))
 
 write-part : PartAnswer → part-enum.PartAnswer
 write-part (fills (written n)) = part-answers.Written n

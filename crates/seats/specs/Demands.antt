@@ -15,6 +15,7 @@ use Rattle.graph.specs.Drawing.{Drawing, redraw}
 use Rattle.graph.specs.Closing.{counts, close}
 use Rattle.graph.specs.Editing.{Change, edit}
 use Rattle.graph.specs.Refusing.{Check, refuse, refuse-lowest, verdict, no-privilege-number, pair-of-one, closed-checks}
+use Rattle.graph.specs.Refusing as refusing
 use Rattle.seats.specs.Bytes.{Bytes, written, too-short}
 use Rattle.seats.specs.Bytes as bytes
 use Rattle.seats.specs.Seats.{seat-count, assigned, pair-seat}
@@ -26,11 +27,12 @@ use Rattle.seats.specs.Images.{least-image, Contents, distance, far-at, 
 use Rattle.seats.specs.Lists.{answers, end, presence, declaration, assignment}
 use Rattle.seats.specs.Tape.{records, lines, PartAnswer, fills, uncounted, joined}
 use Rattle.seats.specs.ListTheorem.{Start}
-use Rattle.seats.specs.Promises.{StepPromise, LoadPromise, MeasurePromise, SavePromise, FeedPromise, KeeperStart, DemandThreeOnCode}
-use Rattle.seats.specs.Reading.{read-state, read-answer, read-filled, read-measured, read-part, read-fed}
+use Rattle.seats.specs.Promises.{StepPromise, LoadPromise, ReadPromise, MeasurePromise, SavePromise, FeedPromise, KeeperStart, DemandThreeOnCode}
+use Rattle.seats.specs.Reading.{read-state, read-answer, read-filled, read-image, read-measured, read-part, read-fed}
 use Rattle.seats.specs.declared.State.{State}
 use Rattle.seats.specs.declared.Answer.{Answer}
 use Rattle.seats.specs.declared.Filled.{Filled}
+use Rattle.seats.specs.declared.ImageRead.{ImageRead}
 use Rattle.seats.specs.declared.Measured.{Measured}
 use Rattle.seats.specs.declared.Fed.{Fed}
 
@@ -155,7 +157,8 @@ pub record DemandOne : Type 0 where
   pub call-answered : (s : State) (l : List ℕ) → One read-outcome (λ z. StepPromise s l (z .0) (z .1))
   -- So there is to every load, whatever the bytes and the state at hand.
   pub load-answered : (s : State) (l : List ℕ) → One read-outcome (λ z. LoadPromise s l (z .0) (z .1))
-  -- So there is to every measuring of bytes.
+  -- So there is to every reading of an image without a state at hand, and to every measuring of one.
+  pub read-answered : (l : List ℕ) → One read-image (ReadPromise l)
   pub measure-answered : (l : List ℕ) → One read-measured (MeasurePromise l)
   -- So there is to every save, with the buffer as it leaves it.
   pub save-answered : (s : seats.State) (buffer : List ℕ) → One read-left (λ z. SavePromise s buffer (z .0) (z .1))
@@ -217,6 +220,9 @@ pub record DemandTwo : Type 0 where
   -- It is accepted exactly where none holds, and gives the state that the image's entries describe.
   pub load-accepted-iff : (s t : State) (l : List ℕ) (a : Answer) → LoadPromise s l a t → (read-answer a ≡ accepted) ↔ None (load-checks l)
   pub load-accepted : (s t : State) (l : List ℕ) (a : Answer) → LoadPromise s l a t → read-answer a ≡ accepted → read-state t ≡ restored (contents-in l)
+  -- Reading an image without a state at hand is refused exactly where loading is, and otherwise gives the state that loading gives.
+  pub read-refused-iff : (l : List ℕ) (r : ImageRead) (n p : ℕ) → ReadPromise l r → (read-image r .0 ≡ refusing.refused n p) ↔ First (load-checks l) n p
+  pub read-accepted : (l : List ℕ) (r : ImageRead) → ReadPromise l r → None (load-checks l) → read-image r ≡ (refusing.passed, restored (contents-in l))
   -- Measuring is refused with a number and a place exactly where loading is.
   pub measure-refused-iff : (l : List ℕ) (m : Measured) (n p : ℕ) → MeasurePromise l m → (read-measured m ≡ unmeasured n p) ↔ First (load-checks l) n p
   -- Otherwise the image is as long as its trailer says.

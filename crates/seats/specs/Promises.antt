@@ -1,4 +1,4 @@
--- What the operations promise of one record, one load, one image measured, one save and one part of a tape; and demand 3 on the code, the list theorem for every chain of the step's promises.
+-- What the operations promise of one record, one load, one image read or measured, one save and one part of a tape; and demand 3 on the code, the list theorem for every chain of the step's promises.
 use mathlib.Core.Path.{_≡_}
 use mathlib.Core.List.{List, map}
 use Prim.Native.Nat.{ℕ}
@@ -9,15 +9,16 @@ use Rattle.seats.specs.Seats.{fresh}
 use Rattle.seats.specs.Seats as seats
 use Rattle.seats.specs.Calls.{accepted}
 use Rattle.seats.specs.Records.{step}
-use Rattle.seats.specs.Images.{load-over, measure}
+use Rattle.seats.specs.Images.{load, judged, load-over, measure}
 use Rattle.seats.specs.Saving.{save}
 use Rattle.seats.specs.Tape.{feed}
 use Rattle.seats.specs.Lists.{answers, end}
 use Rattle.seats.specs.ListTheorem.{ListTheorem}
-use Rattle.seats.specs.Reading.{read-state, read-answer, read-filled, read-measured, read-fed}
+use Rattle.seats.specs.Reading.{read-state, read-answer, read-filled, read-image, read-measured, read-fed}
 use Rattle.seats.specs.declared.State.{State}
 use Rattle.seats.specs.declared.Answer.{Answer}
 use Rattle.seats.specs.declared.Filled.{Filled}
+use Rattle.seats.specs.declared.ImageRead.{ImageRead}
 use Rattle.seats.specs.declared.Measured.{Measured}
 use Rattle.seats.specs.declared.Fed.{Fed}
 
@@ -32,6 +33,10 @@ StepPromise s l a t = (read-answer a, read-state t) ≡ step (read-state s) l
 -- By the bytes l, with the state s at hand, loading gives the answer a and the state t.
 abbrev pub LoadPromise : State → List ℕ → Answer → State → Type 0
 LoadPromise s l a t = (read-answer a, read-state t) ≡ load-over (read-state s) l
+
+-- By the bytes l, reading the image that ends them, with no state at hand, gives r.
+abbrev pub ReadPromise : List ℕ → ImageRead → Type 0
+ReadPromise l r = read-image r ≡ judged (load l)
 
 -- By the bytes l, measuring the image that ends them gives m.
 abbrev pub MeasurePromise : List ℕ → Measured → Type 0
