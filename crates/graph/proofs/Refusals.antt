@@ -17,7 +17,7 @@ use Rattle.sets.proofs.Laws.{member-lt}
 use Rattle.graph.specs.Graph.{Graph, role-count, is-end, ordinary, present, effective}
 use Rattle.graph.specs.Conflicts.{holds-pair}
 use Rattle.graph.specs.Editing.{Change, add-by-place, add-by-privileges, remove-role, grant, withdraw, add-edge, remove-edge}
-use Rattle.graph.specs.Refusing.{Check, passed, refused, verdict, input-checks, at-or-below, state-checks, empty-role, twin-role, pair-role, still-below, closed-checks, change-checks, declare-checks, lift-checks}
+use Rattle.graph.specs.Refusing.{Check, passed, refused, verdict, input-checks, at-or-below, state-checks, empty-role, twin-role, pair-role, still-below, closed-checks, change-checks}
 use Rattle.graph.specs.Invariants.{Formed, Distinct, PairFree}
 use Rattle.graph.proofs.Order.{is-end-lt, not-end, ordinary-lt}
 
@@ -163,14 +163,6 @@ checks-ascend g (grant a b) h = refl
 checks-ascend g (withdraw a b) h = refl
 checks-ascend g (add-edge a b) h = refl
 checks-ascend g (remove-edge a b) h = refl
-
-pub declare-ascend : (g : Graph) (a b : ℕ) → ascending-numbers (declare-checks g a b) ≡ true
-unfolding ascending-numbers ascending-from declare-checks
-declare-ascend g a b = refl
-
-pub lift-ascend : (g : Graph) (a b : ℕ) → ascending-numbers (lift-checks g a b) ≡ true
-unfolding ascending-numbers ascending-from lift-checks
-lift-ascend g a b = refl
 
 -- ---- what each check that passes says
 -- 2: a number is below the count.

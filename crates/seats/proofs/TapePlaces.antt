@@ -9,7 +9,7 @@ use native.Mathlib.Omega.{arith}
 use lib.Dec.{leb}
 use lib.ListN.{length, take, drop, length-drop, drop-of-length-le}
 use lib.Seq.{take-all, take-nil, drop-drop}
-use borrow.Author.Tests.{leb-true, leb-false, not-true, not-false}
+use borrow.Author.Tests.{leb-true, leb-false}
 use Rattle.lists.specs.Runs.{run}
 use Rattle.seats.specs.Seats.{State}
 use Rattle.seats.specs.Records.{record-length, step}
@@ -17,13 +17,6 @@ use Rattle.seats.specs.Lists.{answers, end}
 use Rattle.seats.specs.Tape.{records, line, lines, fed}
 use Rattle.seats.proofs.TapeRecords.{records-first, records-none}
 use Rattle.seats.specs.Places.{is-end, record-at, record-end, records-from}
-
--- What a test of the place says of it, the test being negated.
-pub before-end : (tape : List ℕ) (at : ℕ) {b : Bool} → b ≡ is-end tape at → not b ≡ true → at < length tape
-before-end tape at {b} e f = leb-false (length tape) at (sym e ∙ not-true b f)
-
-pub at-end : (tape : List ℕ) (at : ℕ) {b : Bool} → b ≡ is-end tape at → not b ≡ false → length tape ≤ at
-at-end tape at {b} e f = leb-true (length tape) at (sym e ∙ not-false b f)
 
 -- What is taken ends at the list's end.
 take-min : (n : ℕ) (l : List ℕ) → take (min n (length l)) l ≡ take n l

@@ -11,9 +11,9 @@ ghost use Rattle.graph.specs.Refusing.{passed, verdict};
 ghost use Rattle.graph.specs.Refusing as refusing;
 ghost use Rattle.graph.specs.Reading.{sets-in, drawn-from};
 ghost use Rattle.seats.specs.Seats.{seat-count};
-ghost use Rattle.seats.specs.Images.{set-bytes, role-set-bytes, privilege-bytes, role-width, conflict-width, seat-width, distance, entries-at, contents, content-checks, trailer-length, far-at, load, not-loaded, judged};
+ghost use Rattle.seats.specs.Images.{set-bytes, role-set-bytes, privilege-bytes, role-width, conflict-width, seat-width, distance, entries-at, contents, content-checks, trailer-length, far-at, not-loaded, judged};
 ghost use Rattle.seats.specs.Reading.{state-of, read-image, read-state, read-counts};
-ghost use Rattle.seats.specs.Promises.{LoadPromise, MeasurePromise};
+ghost use Rattle.seats.specs.Promises.{ReadPromise, LoadPromise, MeasurePromise};
 ghost use Rattle.seats.specs.ImageWork.{Roles, Conflicts, Seats, entry-at, value-bytes, part-width, entry-place, entry-passes, store-entries, table-in, EntryTaken, EntriesRead, ContentsRead};
 use crate::Answer;
 use crate::Counts;
@@ -336,7 +336,7 @@ fn refuse(number: u8) -> ImageRead
 
 // The state of the image that ends the bytes, or the refusal of it.
 pub fn read_image(bytes: &[u8]) -> ImageRead
-    ensures { λ r. ⌜ read-image r ≡ judged (load (now (bytes .entry))) ⌝ }
+    ensures { λ r. ⌜ ReadPromise (now (bytes .entry)) r ⌝ }
 {
     let end = bytes.len();
     if end < LEAST {
