@@ -5,9 +5,10 @@ ghost use lib.ListN.{length};
 ghost use Rattle.graph.specs.Refusing.{verdict};
 ghost use Rattle.graph.specs.Reading.{no-sets, read-change};
 ghost use Rattle.seats.specs.Calls.{change, accepted, checks, after, settle, perform};
-ghost use Rattle.seats.specs.Reading.{state-of, read-answer, read-request, read-decision, read-changed};
+ghost use Rattle.seats.specs.Reading.{state-of, read-request, read-decision, read-changed};
 ghost use Rattle.keeper.specs.Block.{block-length, conflicts-of, seats-of, state-in};
-ghost use Rattle.keeper.specs.Exports.{given, fresh-block, call-block};
+ghost use Rattle.keeper.specs.Exports.{given};
+ghost use Rattle.keeper.specs.BlockLists.{FreshPromise, CallPromise};
 use crate::block::CONFLICTS;
 use crate::block::SEATS;
 use crate::block::SETS;
@@ -34,7 +35,7 @@ use seats::records;
 // Makes the block's state a fresh one.
 #[no_mangle]
 pub extern "C" fn keeper_fresh(block: &mut [u64]) -> u32
-    ensures { λ r. ⌜ (r, now (block .exit)) ≡ fresh-block (now (block .entry)) ⌝ }
+    ensures { λ r. ⌜ FreshPromise (now (block .entry)) r (now (block .exit)) ⌝ }
 {
     if block.len() < WORDS {
         return NO_STATE;
@@ -120,7 +121,7 @@ fn take_change(block: &mut [u64], edit: Change) -> u32
 // Takes a record of any bytes.
 #[no_mangle]
 pub extern "C" fn keeper_call(block: &mut [u64], bytes: &[u8]) -> u32
-    ensures { λ r. ⌜ (r, now (block .exit)) ≡ call-block (now (block .entry)) (now (bytes .entry)) ⌝ }
+    ensures { λ r. ⌜ CallPromise (now (block .entry)) (now (bytes .entry)) r (now (block .exit)) ⌝ }
 {
     if block.len() < WORDS {
         return NO_STATE;

@@ -1,6 +1,7 @@
 // The exported functions that save an image into a lent buffer, measure one, and load one.
 ghost use mathlib.Core.Path.{_≡_};
-ghost use Rattle.keeper.specs.Exports.{save-block, image-length, load-block};
+ghost use Rattle.keeper.specs.Exports.{image-length};
+ghost use Rattle.keeper.specs.BlockLists.{LoadPromise, SavePromise};
 use crate::block::CONFLICTS;
 use crate::block::SEATS;
 use crate::block::SETS;
@@ -19,7 +20,7 @@ use seats::saving;
 // Saves the block's state into the buffer: the length written, or NOT_SAVED and the code of what hinders it.
 #[no_mangle]
 pub extern "C" fn keeper_save(block: &[u64], buffer: &mut [u8]) -> u32
-    ensures { λ r. ⌜ (r, now (buffer .exit)) ≡ save-block (now (block .entry)) (now (buffer .entry)) ⌝ }
+    ensures { λ r. ⌜ SavePromise (now (block .entry)) (now (buffer .entry)) r (now (buffer .exit)) ⌝ }
 {
     if block.len() < WORDS {
         return NO_IMAGE;
@@ -49,7 +50,7 @@ pub extern "C" fn keeper_image_length(bytes: &[u8]) -> u32
 // Loads the image that ends the bytes into the block.
 #[no_mangle]
 pub extern "C" fn keeper_load(block: &mut [u64], bytes: &[u8]) -> u32
-    ensures { λ r. ⌜ (r, now (block .exit)) ≡ load-block (now (block .entry)) (now (bytes .entry)) ⌝ }
+    ensures { λ r. ⌜ LoadPromise (now (block .entry)) (now (bytes .entry)) r (now (block .exit)) ⌝ }
 {
     if block.len() < WORDS {
         return NO_STATE;

@@ -1,7 +1,7 @@
 -- Every promise can be kept, and whatever keeps it reads alike: an equation with what a definition gives leaves one outcome.
 -- Assumes nothing.
 use mathlib.Core.Path.{_≡_, refl, sym, ap, _∙_}
-use mathlib.Core.List.{List, []}
+use mathlib.Core.List.{List}
 use Prim.Native.Nat.{ℕ}
 use Rattle.graph.specs.Refusing.{Verdict, passed}
 use Rattle.graph.specs.Refusing as refusing

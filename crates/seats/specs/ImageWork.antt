@@ -7,7 +7,7 @@ use lib.ListN.{getD}
 use lib.Dec.{eqb, leb, ltb}
 use Rattle.sets.specs.Sets.{empty, member, union, included}
 use Rattle.graph.specs.Tables.{at}
-use Rattle.graph.specs.Graph.{role-count, privilege-count}
+use Rattle.graph.specs.Graph.{privilege-count}
 use Rattle.graph.specs.Refusing.{passed, refused, verdict}
 use Rattle.graph.specs.Reading.{sets-in}
 use Rattle.seats.specs.Bytes.{number-at}

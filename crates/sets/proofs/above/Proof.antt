@@ -3,7 +3,7 @@
 use borrow.Author.Needs.{needs}
 use borrow.Author.Tests.{eq-eqb, ne-eqb, lt-ltb, le-ltb}
 use mathlib.Core.Path.{_≡_, sym, ap, ap₂, _∙_}
-use mathlib.Core.Bool.{Bool, false, not, _&&_, _||_, and-comm}
+use mathlib.Core.Bool.{Bool, not, _&&_, _||_, and-comm}
 use Prim.Native.Nat.{ℕ, zero, suc, _-_, _^_, _/_, _%_, _<_, _≤_}
 use native.Mathlib.Nat.{pow-suc}
 use native.Mathlib.Decide.{ℕ-discrete, decLt}

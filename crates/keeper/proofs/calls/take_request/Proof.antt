@@ -1,7 +1,6 @@
 -- `keeper::calls::take_request` meets its contract: what the decision stores is stored in the block.
 -- Assumes nothing.
 use mathlib.Core.Path.{sym, ap, _∙_}
-use Prim.Native.Nat.{_<_}
 use native.Mathlib.Omega.{arith}
 use borrow.Author.Needs.{needs}
 use Rattle.seats.specs.declared.Stored.{Stored}

@@ -2,7 +2,6 @@
 -- Assumes nothing.
 use mathlib.Core.Path.{ap₂, _∙_}
 use Prim.Native.Nat.{ℕ, _+_, _*_}
-use borrow.Author.Needs.{needs}
 use Rattle.seats.specs.Tape.{answer-number, answer-place}
 use Rattle.keeper.specs.Block.{code-of}
 use Rattle.keeper.proofs.codes.code.Statement.{statement}

@@ -2,20 +2,17 @@
 -- Assumes nothing.
 use borrow.Author.Needs.{needs}
 use borrow.Author.Tests.{not-true, not-false}
-use mathlib.Core.Path.{_≡_, sym, ap, _∙_, subst}
-use mathlib.Core.Bool.{Bool, true, _&&_}
-use mathlib.Core.List.{List}
-use Prim.Native.Nat.{ℕ, _+_}
+use mathlib.Core.Path.{_≡_, sym, _∙_, subst}
+use mathlib.Core.Bool.{true, _&&_}
+use Prim.Native.Nat.{ℕ}
 use native.Mathlib.Omega.{arith}
 use lib.Dec.{T, leb, ltb}
-use lib.ListN.{getD, set}
 use Rattle.sets.specs.Sets.{union, when, single}
 use Rattle.sets.proofs.Tests.{both, passes}
 use Rattle.graph.specs.Graph.{privilege-count}
 use Rattle.graph.specs.Tables.{at}
-use Rattle.graph.specs.Reading.{sets-in}
-use Rattle.seats.specs.Images.{Entry, pair-place}
-use Rattle.seats.specs.ImageWork.{Conflicts, entry-of, entry-place, entry-passes, EntryTaken}
+use Rattle.seats.specs.Images.{pair-place}
+use Rattle.seats.specs.ImageWork.{Conflicts, entry-place, entry-passes}
 use Rattle.seats.proofs.ShortNumbers.{one-byte}
 use Rattle.seats.proofs.EntryReading.{conflict-stored, entry-refused, entry-passed}
 use Rattle.seats.proofs.loading.read_conflict.Statement.{statement}

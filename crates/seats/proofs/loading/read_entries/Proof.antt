@@ -2,12 +2,11 @@
 -- Assumes nothing.
 use borrow.Author.Needs.{needs}
 use borrow.Author.Tests.{not-true, not-false}
-use mathlib.Core.Path.{_≡_, sym, ap, _∙_, subst}
-use mathlib.Core.List.{List, _∷_}
-use Prim.Native.Nat.{ℕ, _+_, _-_, _*_, _≤_}
-use native.Mathlib.Omega.{arith}
+use mathlib.Core.Path.{_≡_}
+use mathlib.Core.List.{_∷_}
+use Prim.Native.Nat.{_+_, _-_, _*_, _≤_}
 use lib.ListN.{length}
-use Rattle.seats.specs.Images.{Entry, entries-at}
+use Rattle.seats.specs.Images.{entries-at}
 use Rattle.seats.specs.ImageWork.{value-bytes, part-width, table-in, entry-at}
 use Rattle.seats.proofs.EntryReading.{first-entry, no-entries, entry-room, PartLeft, part-all, part-next, part-refused, part-done}
 use Rattle.seats.proofs.loading.read_entries.Statement.{statement}

@@ -2,19 +2,17 @@
 -- Assumes nothing.
 use borrow.Author.Needs.{needs}
 use borrow.Author.Tests.{not-true, not-false, lt-ltb}
-use mathlib.Core.Path.{_≡_, sym, ap, _∙_, subst}
-use mathlib.Core.Bool.{Bool, true, not, _&&_}
-use mathlib.Core.List.{List}
+use mathlib.Core.Path.{_≡_, sym, _∙_, subst}
+use mathlib.Core.Bool.{true, not, _&&_}
 use Prim.Native.Nat.{ℕ}
 use native.Mathlib.Omega.{arith}
 use lib.Bits.{or-zero-l}
 use lib.Dec.{T, T-not, leb, ltb}
-use lib.ListN.{set}
 use Rattle.sets.specs.Sets.{empty, union, when, single}
 use Rattle.sets.proofs.Tests.{both}
 use Rattle.graph.specs.Graph.{role-count}
-use Rattle.seats.specs.Images.{Entry, no-ordinary-number}
-use Rattle.seats.specs.ImageWork.{Roles, entry-of, entry-place, entry-passes, store-entries}
+use Rattle.seats.specs.Images.{no-ordinary-number}
+use Rattle.seats.specs.ImageWork.{Roles, entry-of, entry-place, entry-passes}
 use Rattle.seats.proofs.LoadFacts.{role-number}
 use Rattle.seats.proofs.EntryReading.{role-stored, entry-refused, entry-passed}
 use Rattle.seats.proofs.loading.read_role.Statement.{statement}

@@ -1,6 +1,5 @@
 -- `records::named` meets its contract: each arm is its kind's line in the table, and nothing stands beyond the last.
 -- Assumes nothing.
-use borrow.Author.Needs.{needs}
 use mathlib.Core.Path.{refl, _∙_}
 use Rattle.graph.specs.Reading.{read-change}
 use Rattle.seats.specs.Records.{all-empty, unused, kinds}

@@ -1,15 +1,14 @@
 -- `seats::saving::put_row` meets its contract: the conflicts with the privileges visited are written, and those with `rest` are left.
 -- Assumes nothing.
 use borrow.Author.Needs.{needs}
-use borrow.Author.Tests.{not-true, not-false}
+use borrow.Author.Tests.{not-false}
 use mathlib.Core.Bool.{not}
 use mathlib.Core.Path.{_≡_, sym, ap, _∙_, subst}
 use mathlib.Core.Logic.{_≢_}
 use Prim.Native.Nat.{ℕ, _<_, _^_}
 use native.Mathlib.Omega.{arith}
 use lib.Dec.{T, T-not, eqb}
-use lib.Pow.{pow-pos}
-use Rattle.sets.proofs.Tests.{fails, equal-test, test-equal}
+use Rattle.sets.proofs.Tests.{equal-test, test-equal}
 use Rattle.sets.proofs.Laws.{union-empty}
 use Rattle.sets.proofs.Walks.{lowest-below, next-lt, next-falls}
 use Rattle.graph.specs.Graph.{privilege-count}

@@ -1,10 +1,10 @@
 -- `seats::saving::put_table` meets its contract: the entries of the keys visited are written, and those of `rest` are left.
 -- Assumes nothing.
 use borrow.Author.Needs.{needs}
-use Prim.Native.Nat.{ℕ, _<_, _^_}
+use Prim.Native.Nat.{_<_, _^_}
 use native.Mathlib.Omega.{arith}
 use Rattle.sets.proofs.Walks.{lowest-below, next-lt, next-falls}
-use Rattle.seats.specs.Images.{Entry, entry-bytes}
+use Rattle.seats.specs.Images.{entry-bytes}
 use Rattle.seats.specs.ImageWork.{value-bytes, value-of, word-width, part-entries}
 use Rattle.seats.proofs.AscendingEntries.{valued}
 use Rattle.seats.proofs.Written.{Unwritten, unwritten-all, unwritten-length}

@@ -1,7 +1,6 @@
 -- `seats::saving::row` meets its contract: a conflict stands under its lower privilege.
 -- Assumes nothing.
 use mathlib.Core.Path.{ap, _∙_}
-use Prim.Native.Nat.{ℕ}
 use Rattle.sets.specs.Sets.{above}
 use Rattle.graph.specs.Graph.{privilege-count}
 use Rattle.graph.specs.Conflicts.{conflict}
