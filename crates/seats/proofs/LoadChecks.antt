@@ -194,12 +194,12 @@ module _ (l : List ℕ) {far : ℕ} {n : Counts} (long : least-image ≤ length 
     contents-decide h = trailer-decides ∙ rw (eq-eqb far (distance n) e, le-leb far (length l) h)
 
 -- ---- what reading an image gives
-pub read-refused : (l : List ℕ) (n : ℕ) → load l ≡ not-loaded n 0 → {r : Verdict × State} → r ≡ judged (not-loaded n 0) → r ≡ judged (load l)
-read-refused l n e q = q ∙ ap judged (sym e)
+pub read-refused : (x : Loaded) (n : ℕ) → x ≡ not-loaded n 0 → {r : Verdict × State} → r ≡ judged (not-loaded n 0) → r ≡ judged x
+read-refused x n e q = q ∙ ap judged (sym e)
 
-pub read-passed : (l : List ℕ) (s : State) → load l ≡ loaded s → _≡_ {A = Verdict × State} (passed, s) (judged (load l))
+pub read-passed : (x : Loaded) (s : State) → x ≡ loaded s → _≡_ {A = Verdict × State} (passed, s) (judged x)
 unfolding judged
-read-passed l s e = ap judged (sym e)
+read-passed x s e = ap judged (sym e)
 
 -- A verdict that passes is no refusal.
 abbrev Goes : Verdict → Type 0

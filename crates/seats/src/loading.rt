@@ -2,7 +2,7 @@
 ghost use mathlib.Core.Path.{_≡_};
 ghost use mathlib.Core.Bool.{not, cond, false, _&&_, _||_};
 ghost use Prim.Native.Nat.{ℕ, _+_, _*_, _≤_};
-ghost use lib.ListN.{length};
+ghost use lib.ListN.{length, replicate};
 ghost use lib.Dec.{eqb, leb, ltb};
 ghost use Rattle.sets.specs.Counting.{any};
 ghost use Rattle.sets.specs.Sets.{empty, included};
@@ -11,8 +11,8 @@ ghost use Rattle.graph.specs.Refusing.{passed, verdict};
 ghost use Rattle.graph.specs.Refusing as refusing;
 ghost use Rattle.graph.specs.Reading.{sets-in, drawn-from};
 ghost use Rattle.seats.specs.Seats.{seat-count};
-ghost use Rattle.seats.specs.Images.{set-bytes, role-set-bytes, privilege-bytes, role-width, conflict-width, seat-width, distance, entries-at, contents, content-checks, trailer-length, far-at, not-loaded, judged};
-ghost use Rattle.seats.specs.Reading.{state-of, read-image, read-state, read-counts};
+ghost use Rattle.seats.specs.Images.{set-bytes, role-set-bytes, privilege-bytes, role-width, conflict-width, seat-width, distance, entries-at, contents, content-checks, trailer-length, far-at, load-contents, not-loaded, judged};
+ghost use Rattle.seats.specs.Reading.{state-of, read-image, read-counts};
 ghost use Rattle.seats.specs.Promises.{ReadPromise, LoadPromise, MeasurePromise};
 ghost use Rattle.seats.specs.ImageWork.{Roles, Conflicts, Seats, entry-at, value-bytes, part-width, entry-place, entry-passes, store-entries, table-in, EntryTaken, EntriesRead, ContentsRead};
 use crate::Answer;
@@ -59,12 +59,6 @@ struct EntryRead {
 // The roles of the entries that were read, and whether none of them is refused.
 struct PartRead {
     roles: u64,
-    sound: bool,
-}
-
-// The state that the contents of an image describe, and whether none of their entries is refused.
-struct Contents {
-    state: State,
     sound: bool,
 }
 
@@ -235,45 +229,39 @@ fn read_entries(
     PartRead { roles, sound: true }
 }
 
-// The contents at a place, so many.
-fn read_contents(bytes: &[u8], at: usize, counts: Counts) -> Contents
+// Stores the contents at a place, so many, in tables without a set; gives the roles, and whether no entry is refused.
+fn read_contents(
+    bytes: &[u8],
+    at: usize,
+    counts: Counts,
+    sets: &mut [u64],
+    conflicts: &mut [u64],
+    seats: &mut [u64],
+) -> PartRead
     requires { ⌜ at + distance (read-counts counts) ≤ length (now bytes) ⌝ }
-    ensures { λ x. ⌜ ContentsRead (contents (now (bytes .entry)) at (read-counts counts)) (read-state (x .state)) (x .sound) ⌝ }
+    requires { ⌜ sets-in (now sets) ≡ replicate role-count empty ⌝ }
+    requires { ⌜ sets-in (now conflicts) ≡ replicate privilege-count empty ⌝ }
+    requires { ⌜ now seats ≡ replicate seat-count empty ⌝ }
+    ensures { λ r. ⌜ ContentsRead (contents (now (bytes .entry)) at (read-counts counts)) (state-of (r .roles) (now (sets .exit)) (now (conflicts .exit)) (now (seats .exit))) (r .sound) ⌝ }
 {
     let roles_at = at + SET;
     let conflicts_at = roles_at + ROLE_ENTRY * counts.roles;
     let seats_at = conflicts_at + CONFLICT_ENTRY * counts.conflicts;
-    let mut sets = [0u64; 64];
-    store(&mut sets, 1, set_at(bytes, at));
-    let roles = read_entries(Part::Roles, bytes, roles_at, counts.roles, 0, &mut sets);
-    let mut conflicts = [0u64; 64];
+    store(sets, 1, set_at(bytes, at));
+    let read = read_entries(Part::Roles, bytes, roles_at, counts.roles, 0, sets);
+    let roles = read.roles;
     let pairs = read_entries(
         Part::Conflicts,
         bytes,
         conflicts_at,
         counts.conflicts,
         0,
-        &mut conflicts,
-    );
-    let mut seats = [0u64; 64];
-    let present = roles.roles;
-    let seated = read_entries(
-        Part::Seats,
-        bytes,
-        seats_at,
-        counts.seats,
-        present,
-        &mut seats,
-    );
-    let state = State {
-        roles: present,
-        sets,
         conflicts,
-        seats,
-    };
-    Contents {
-        state,
-        sound: roles.sound & pairs.sound & seated.sound,
+    );
+    let seated = read_entries(Part::Seats, bytes, seats_at, counts.seats, roles, seats);
+    PartRead {
+        roles,
+        sound: read.sound & pairs.sound & seated.sound,
     }
 }
 
@@ -334,6 +322,34 @@ fn refuse(number: u8) -> ImageRead
     }
 }
 
+// The state that the contents at a place describe, or the refusal of them.
+fn read_state(bytes: &[u8], at: usize, counts: Counts) -> ImageRead
+    requires { ⌜ at + distance (read-counts counts) ≤ length (now bytes) ⌝ }
+    ensures { λ r. ⌜ read-image r ≡ judged (load-contents (contents (now (bytes .entry)) at (read-counts counts))) ⌝ }
+{
+    let mut sets = [0u64; 64];
+    let mut conflicts = [0u64; 64];
+    let mut seats = [0u64; 64];
+    let found = read_contents(bytes, at, counts, &mut sets, &mut conflicts, &mut seats);
+    if !found.sound {
+        return refuse(7);
+    }
+    let roles = found.roles;
+    if !is_sound(roles, &sets, &conflicts, &seats) {
+        return refuse(8);
+    }
+    let state = State {
+        roles,
+        sets,
+        conflicts,
+        seats,
+    };
+    ImageRead {
+        verdict: Verdict::Passed,
+        state,
+    }
+}
+
 // The state of the image that ends the bytes, or the refusal of it.
 pub fn read_image(bytes: &[u8]) -> ImageRead
     ensures { λ r. ⌜ ReadPromise (now (bytes .entry)) r ⌝ }
@@ -350,19 +366,7 @@ pub fn read_image(bytes: &[u8]) -> ImageRead
     if end < far {
         return refuse(6);
     }
-    let found = read_contents(bytes, end - far, counts);
-    if !found.sound {
-        return refuse(7);
-    }
-    let state = found.state;
-    let roles = state.roles;
-    if !is_sound(roles, &state.sets, &state.conflicts, &state.seats) {
-        return refuse(8);
-    }
-    ImageRead {
-        verdict: Verdict::Passed,
-        state,
-    }
+    read_state(bytes, end - far, counts)
 }
 
 // The state of the image that ends the bytes; a refused load keeps the state at hand.

@@ -1,7 +1,6 @@
 -- `seats::loading::read_contents` meets its contract: the parts stand one behind the other, and each is tested as it is read.
 -- Assumes nothing.
 use borrow.Author.Needs.{needs}
-use Rattle.graph.specs.Reading.{sets-in}
 use Rattle.seats.specs.Images.{distance, contents}
 use Rattle.seats.specs.Reading.{read-counts}
 use Rattle.seats.specs.ImageWork.{value-bytes, table-in}
@@ -28,44 +27,42 @@ add-seats-at : tie.Need-add-seats-at
 unfolding distance
 add-seats-at c = search needs
 
-slice-aggregate-store : tie.Need-slice-aggregate-store
-slice-aggregate-store c = search needs
-
 set-at-requires : tie.Need-set-at-requires
 unfolding distance
 set-at-requires c κs = search needs
-
-slice-aggregate-read-entries : tie.Need-slice-aggregate-read-entries
-slice-aggregate-read-entries c = search needs
 
 read-entries-requires : tie.Need-read-entries-requires
 unfolding distance value-bytes
 read-entries-requires c κs = search needs
 
-slice-aggregate-read-entries-2 : tie.Need-slice-aggregate-read-entries-2
-slice-aggregate-read-entries-2 c = search needs
-
 read-entries-requires-2 : tie.Need-read-entries-requires-2
 unfolding distance value-bytes
 read-entries-requires-2 c κs = search needs
-
-slice-aggregate-read-entries-3 : tie.Need-slice-aggregate-read-entries-3
-slice-aggregate-read-entries-3 c = search needs
 
 read-entries-requires-3 : tie.Need-read-entries-requires-3
 unfolding distance value-bytes
 read-entries-requires-3 c κs = search needs
 
+same-length : tie.Need-same-length
+same-length c = search needs
+
+same-length-2 : tie.Need-same-length-2
+same-length-2 c = search needs
+
+same-length-3 : tie.Need-same-length-3
+same-length-3 c = search needs
+
 returns : tie.Need-returns
-unfolding contents value-bytes table-in sets-in
+unfolding contents value-bytes table-in
 returns c =
-    let s = c .before .before .before .before in
-    let p = s .before .before .before in
-    let r = p .before .before .before in
-    let w = r .before .before .before in
-    let g = w .before .before .before .before .before .before .args in
+    let s = c .before .before .before .before .before in
+    let p = s .before .before .before .before in
+    let r = p .before .before .before .before in
+    let w = r .before .before .before .before in
+    let e = w .before .before .before .before .before .before .before .before .before in
+    let g = e .args in
     contents-read (contents (g .bytes .now) (g .at) (read-counts (g .counts)))
-    (rw (w .store .ensures, w .before .set-at .ensures) at (r .read-entries .ensures)) (p .read-entries2 .ensures) (s .read-entries3 .ensures)
+    (rw (w .store .ensures, w .before .set-at .ensures, e .pre .1 .0) at (r .read-entries .ensures)) (rw (e .pre .1 .1 .0) at (p .read-entries2 .ensures)) (rw (e .pre .1 .1 .1) at (s .read-entries3 .ensures))
 
 pub read-contents-spec : {M : Type 1} → statement M
 read-contents-spec =
@@ -76,13 +73,12 @@ read-contents-spec =
     add-conflicts-at
     mul-seats-at
     add-seats-at
-    slice-aggregate-store
     set-at-requires
     (λ c κs. tt)
-    slice-aggregate-read-entries
     read-entries-requires
-    slice-aggregate-read-entries-2
     read-entries-requires-2
-    slice-aggregate-read-entries-3
     read-entries-requires-3
+    same-length
+    same-length-2
+    same-length-3
     returns)

@@ -1,14 +1,12 @@
--- `seats::loading::read_image` meets its contract: the trailer, then the entries, then the state that they describe are tested, with one return each.
+-- `seats::loading::read_image` meets its contract: the trailer is tested, with one return for each of its tests, and then the contents decide.
 -- Assumes nothing.
 use borrow.Author.Needs.{needs}
-use borrow.Author.Tests.{not-true, not-false}
-use mathlib.Core.Path.{_≡_, sym, _∙_}
+use mathlib.Core.Path.{_≡_, sym, ap, _∙_}
 use Prim.Native.Nat.{_-_}
 use lib.ListN.{length}
-use Rattle.graph.specs.Reading.{read-verdict}
-use Rattle.seats.specs.Images.{contents, load-contents, load}
+use Rattle.seats.specs.Images.{contents, load-contents, load, judged}
 use Rattle.seats.specs.Reading.{read-counts}
-use Rattle.seats.proofs.LoadChecks.{too-few-bytes, other-distance, beyond-bytes, contents-decide, entries-refused, state-refused, state-loaded, read-refused, read-passed}
+use Rattle.seats.proofs.LoadChecks.{too-few-bytes, other-distance, beyond-bytes, contents-decide, read-refused}
 use Rattle.seats.proofs.loading.read_image.Statement.{statement}
 use Rattle.seats.proofs.loading.read_image.Tie as tie
 
@@ -43,28 +41,11 @@ returns-3 c =
     let b = c .before .before .before .before in
     read-refused _ 6 (beyond-bytes _ (b .before .before .if1 .left) (b .before .far-back .ensures) (b .counts-at .ensures .0) (c .before .before .if2 .left ∙ c .before .before .before .distance .ensures .0) (c .before .if3 .taken)) (c .refuse3 .ensures)
 
-read-contents-requires : tie.Need-read-contents-requires
-read-contents-requires c κs = search needs
+read-state-requires : tie.Need-read-state-requires
+read-state-requires c κs = search needs
 
 returns-4 : tie.Need-returns-4
-returns-4 c =
-    let r = c .before .before .before in
-    read-refused _ 7 (placed (r .before) ∙ entries-refused (r .read-contents .ensures) (not-true _ (c .before .if4 .taken))) (c .refuse4 .ensures)
-
-returns-5 : tie.Need-returns-5
-returns-5 c =
-    let s = c .before .before in
-    let t = s .before .before .before .before .before .before .before .before .before in
-    let r = t .before .before in
-    read-refused _ 8 (placed (r .before) ∙ state-refused (r .read-contents .ensures) (not-false _ (t .if4 .left)) (s .is-sound .result) (s .is-sound .ensures) (not-true _ (c .before .if5 .taken))) (c .refuse5 .ensures)
-
-returns-6 : tie.Need-returns-6
-unfolding read-verdict
-returns-6 c =
-    let s = c .before in
-    let t = s .before .before .before .before .before .before .before .before .before in
-    let r = t .before .before in
-    read-passed _ _ (placed (r .before) ∙ state-loaded (r .read-contents .ensures) (not-false _ (t .if4 .left)) (s .is-sound .result) (s .is-sound .ensures) (not-false _ (c .if5 .left)))
+returns-4 c = c .read-state .ensures ∙ ap judged (sym (placed (c .before)))
 
 pub read-image-spec : {M : Type 1} → statement M
 read-image-spec =
@@ -79,10 +60,5 @@ read-image-spec =
     returns-2
     (λ c κs. tt)
     returns-3
-    read-contents-requires
-    (λ c κs. tt)
-    returns-4
-    (λ c κs. tt)
-    (λ c κs. tt)
-    returns-5
-    returns-6)
+    read-state-requires
+    returns-4)
