@@ -13,10 +13,10 @@ use Rattle.sets.proofs.Members.{in-union, in-difference, difference-in, in-when
 use Rattle.graph.specs.Graph.{Graph, role-count, privilege-count, is-end, present}
 use Rattle.graph.specs.Drawing.{below, edge, direct, redraw}
 use Rattle.graph.specs.Editing.{Change, add-by-place, add-by-privileges, remove-role, grant, withdraw, add-edge, remove-edge, for-role, edit, changed}
-use Rattle.graph.specs.Refusing.{input-checks, at-or-below, state-checks}
+use Rattle.graph.specs.Refusing.{input-checks, at-or-below, state-checks, Passes}
 use Rattle.graph.specs.Invariants.{Formed}
 use Rattle.graph.proofs.Order.{not-end, edge-below}
-use Rattle.graph.proofs.Refusals.{Passes, number-lt, no-end-in, not-equal, all-present, no-circle-in}
+use Rattle.graph.proofs.Refusals.{number-lt, no-end-in, not-equal, all-present, no-circle-in}
 use Rattle.graph.specs.Working.{has-role, JoinsLaid}
 use Rattle.graph.proofs.Closing.{DirectsLaid, Laid, closed-formed}
 use Rattle.graph.proofs.Heights.{order, ordinary-below, raised, ordered, edges-laid}

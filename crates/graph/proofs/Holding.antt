@@ -17,13 +17,13 @@ use Rattle.graph.specs.Tables.{at, table}
 use Rattle.graph.specs.Graph.{Graph, role-count, privilege-count, max-alone, end-roles}
 use Rattle.graph.specs.Drawing.{edge, juniors, direct, redraw}
 use Rattle.graph.specs.Editing.{Change, add-by-place, add-by-privileges, remove-role, grant, withdraw, add-edge, remove-edge, for-role, edit}
-use Rattle.graph.specs.Refusing.{passed, early, input-checks, state-checks}
+use Rattle.graph.specs.Refusing.{passed, early, input-checks, state-checks, Passes}
 use Rattle.graph.specs.Invariants.{Table}
 use Rattle.graph.specs.Working.{less-juniors, Holds}
 use Rattle.graph.proofs.Tables.{at-table, length-table, at-end}
 use Rattle.graph.proofs.Order.{present-cases, edge-below, above-min}
 use Rattle.graph.proofs.Heights.{order, edges-laid}
-use Rattle.graph.proofs.Refusals.{Passes, parts, passed-passes, number-lt}
+use Rattle.graph.proofs.Refusals.{parts, passed-passes, number-lt}
 use Rattle.graph.proofs.DrawingCode.{seniors-cover, directs-table}
 use Rattle.graph.proofs.Edits.{Fits, joins-laid}
 

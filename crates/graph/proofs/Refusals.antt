@@ -17,14 +17,9 @@ use Rattle.sets.proofs.Laws.{member-lt}
 use Rattle.graph.specs.Graph.{Graph, role-count, is-end, ordinary, present, effective}
 use Rattle.graph.specs.Conflicts.{holds-pair}
 use Rattle.graph.specs.Editing.{Change, add-by-place, add-by-privileges, remove-role, grant, withdraw, add-edge, remove-edge}
-use Rattle.graph.specs.Refusing.{Check, passed, refused, verdict, input-checks, at-or-below, state-checks, empty-role, twin-role, pair-role, still-below, closed-checks, change-checks}
+use Rattle.graph.specs.Refusing.{Check, passed, refused, verdict, input-checks, at-or-below, state-checks, empty-role, twin-role, pair-role, still-below, closed-checks, change-checks, Passes}
 use Rattle.graph.specs.Invariants.{Formed, Distinct, PairFree}
 use Rattle.graph.proofs.Order.{is-end-lt, not-end, ordinary-lt}
-
--- No check of the list holds.
-unfoldable pub Passes : List Check → Type 0
-Passes [] = Unit {0}
-Passes (c ∷ l) = (T (c .holds) → ⊥) × Passes l
 
 pub parts : (l m : List Check) → Passes (l ++ m) → Passes l × Passes m
 unfolding Passes

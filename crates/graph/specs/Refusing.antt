@@ -1,8 +1,10 @@
 -- Document 01, "Refusals that come from the input" and "Refusals that come from the state": for each call one list of checks in the order of their numbers, the first that holds refuses.
 use mathlib.Core.Bool.{Bool, cond, not, _&&_, _||_}
+use mathlib.Core.Path.{_≡_}
+use mathlib.Core.Logic.{_⊎_}
 use mathlib.Core.List.{List, [], _∷_, _++_}
 use Prim.Native.Nat.{ℕ}
-use lib.Dec.{leb, eqb}
+use lib.Dec.{T, leb, eqb}
 use Rattle.sets.specs.Counting.{any, lowest}
 use Rattle.sets.specs.Sets.{empty, member, included}
 use Rattle.graph.specs.Graph.{Graph, role-count, privilege-count, is-end, ordinary, present, effective}
@@ -33,6 +35,16 @@ pub data Verdict : Type 0 where
 unfoldable pub verdict : List Check → Verdict
 verdict [] = passed
 verdict (c ∷ l) = cond (c .holds) (refused (c .number) (c .place)) (verdict l)
+
+-- No check of the list holds.
+unfoldable pub Passes : List Check → Type 0
+Passes [] = Unit {0}
+Passes (c ∷ l) = (T (c .holds) → ⊥) × Passes l
+
+-- The first check of the list that holds has number n and place p.
+unfoldable pub First : List Check → ℕ → ℕ → Type 0
+First [] n p = ⊥
+First (c ∷ l) n p = (T (c .holds) × (c .number ≡ n) × (c .place ≡ p)) ⊎ ((T (c .holds) → ⊥) × First l n p)
 
 -- ---- refusals of the input, 2 to 5
 

@@ -6,6 +6,7 @@ use mathlib.Core.Logic.{_↔_, inl, inr}
 use Prim.Native.Nat.{ℕ, _<_, _≤_}
 use native.Mathlib.Omega.{arith}
 use lib.Dec.{T, leb, leb→le, le→leb}
+use Rattle.graph.specs.Refusing.{Passes}
 use Rattle.sets.specs.Sets.{member}
 use Rattle.sets.proofs.Tests.{passes}
 use Rattle.sets.proofs.Laws.{member-lt}
@@ -14,7 +15,6 @@ use Rattle.graph.specs.Graph.{role-count, privilege-count, effective}
 use Rattle.graph.specs.Tables.{at}
 use Rattle.graph.proofs.Tables.{entry-in}
 use Rattle.graph.proofs.DrawnSets.{Reached, effective-iff, effective-lt}
-use Rattle.graph.proofs.Refusals.{Passes}
 use Rattle.seats.specs.Bytes.{number-at}
 use Rattle.seats.specs.Seats.{State, seat-count, assigned, held, may-use}
 use Rattle.seats.specs.Calls.{ask, Answer, answered, refused, checks, after, reply, perform}

@@ -17,13 +17,13 @@ use Rattle.graph.specs.Conflicts.{declared, same-pair, holds-both, holds-pair}
 use Rattle.graph.specs.Conflicts as conflicts
 use Rattle.graph.specs.Drawing.{redraw}
 use Rattle.graph.specs.Editing.{Change, add-by-place, add-by-privileges, remove-role, grant, withdraw, add-edge, remove-edge, edit, changed}
-use Rattle.graph.specs.Refusing.{input-checks, state-checks, still-below, closed-checks, declare-checks, lift-checks, offered-role}
+use Rattle.graph.specs.Refusing.{input-checks, state-checks, still-below, closed-checks, declare-checks, lift-checks, offered-role, Passes}
 use Rattle.graph.specs.Invariants.{Formed, Distinct, Paired}
 use Rattle.graph.proofs.Tables.{entry-in, put-test, put-table, take-out-test, take-out-table}
 use Rattle.graph.proofs.Order.{ordinary-parts, ordinary-join, ordinary-lt, not-end, present-cases}
 use Rattle.graph.proofs.Conflicts.{conflict-parts, pair-found, pair-holds, pair-more, declared-in-order, declare-test, lift-test, declare-paired, lift-paired, conflict-lt}
 use Rattle.graph.proofs.Edits.{Fits, changed-formed}
-use Rattle.graph.proofs.Refusals.{Passes, parts, number-lt, not-equal, closed-from, closed-goes}
+use Rattle.graph.proofs.Refusals.{parts, number-lt, not-equal, closed-from, closed-goes}
 use Rattle.seats.specs.Seats.{State, seat-count, assigned, held, pair-seat, offered-seat}
 use Rattle.seats.specs.Calls.{Call, change, declare, lift, assign, unassign, ask, seat-checks, checks, with-graph, with-conflicts, with-seats, after}
 use Rattle.seats.specs.Invariants.{Invariant}

@@ -11,10 +11,10 @@ use Rattle.lists.proofs.Runs.{chain-unrefused}
 use Rattle.graph.specs.Graph.{role-count, present, ordinary, effective}
 use Rattle.graph.specs.Drawing.{below, edge, direct, redraw}
 use Rattle.graph.specs.Editing.{Change, edit, changed}
-use Rattle.graph.specs.Refusing.{Verdict, verdict, input-checks, state-checks}
+use Rattle.graph.specs.Refusing.{Verdict, verdict, input-checks, state-checks, Passes}
 use Rattle.graph.proofs.Closing.{Laid, closed-equation, closed-unique}
 use Rattle.graph.proofs.Edits.{laid}
-use Rattle.graph.proofs.Refusals.{Passes, parts, verdict-passes, lowest-number}
+use Rattle.graph.proofs.Refusals.{parts, verdict-passes, lowest-number}
 use Rattle.seats.specs.Bytes.{Bytes}
 use Rattle.seats.specs.Seats as seats
 use Rattle.seats.specs.Calls.{Call, change, declare, lift, assign, unassign, ask, accepted, refused, checks, with-graph, with-conflicts, with-seats, after, is-refusal}
@@ -37,7 +37,7 @@ use Rattle.seats.proofs.CallInvariant.{FitsCall}
 use Rattle.seats.proofs.History.{call-ordinary, call-declared, call-assigned}
 use Rattle.seats.proofs.ListTheorem.{list-theorem}
 use Rattle.seats.proofs.KeeperTheorem.{accepted-load, keeper-theorem}
-use Rattle.seats.proofs.FirstChecks.{first-refuses, refuses-first, none-passes, Settles, settles}
+use Rattle.seats.proofs.FirstChecks.{first-refuses, refuses-first, Settles, settles}
 use Rattle.seats.proofs.RecordVerdict.{record-refused-iff, record-refused, record-accepted-iff, record-lowest, record-accepted, record-passes}
 use Rattle.seats.proofs.WholeChecks.{declare-by-whole, assign-by-whole}
 use Rattle.seats.proofs.LoadRefusals.{load-refusals}
@@ -177,12 +177,12 @@ demand-two = record {
         λ w. refuses-first (load-checks l) n p (sym q ∙ w),
         λ f. q ∙ first-refuses (load-checks l) n p f,
       );
-  read-accepted = λ l r e t. e ∙ read-passed l (verdict-passes (load-checks l) (none-passes (load-checks l) t));
+  read-accepted = λ l r e t. e ∙ read-passed l (verdict-passes (load-checks l) t);
   measure-refused-iff = λ l m n p e. (
     λ r. refuses-first (load-checks l) n p (measure-refuses l n p .0 (sym e ∙ r)),
     λ f. e ∙ measure-refuses l n p .1 (first-refuses (load-checks l) n p f),
   );
-  measure-accepted = λ l m b e t. e ∙ measure-loads l b (verdict-passes (load-checks l) (none-passes (load-checks l) t));
+  measure-accepted = λ l m b e t. e ∙ measure-loads l b (verdict-passes (load-checks l) t);
   save-refused-iff = λ s buffer left f n p e. elim (saves s buffer left (read-filled f) e) [
     | has-room k q _ ↦ (λ r. absurd (no-written (sym q ∙ r)), λ (x, y, l). absurd (omega arith))
     | no-room l q _ ↦ (λ r. let (x, y) = same-short (sym q ∙ r) in (sym x, sym y, l), λ (x, y, _). q ∙ rw (x, y))

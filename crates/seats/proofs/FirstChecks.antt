@@ -9,13 +9,13 @@ use native.Mathlib.Omega.{arith}
 use lib.Dec.{T, leb, leb→le}
 use Rattle.sets.proofs.Tests.{both, either, passes, fails, decide}
 use Rattle.graph.specs.Editing.{add-by-place, add-by-privileges, remove-role, grant, withdraw, add-edge, remove-edge}
-use Rattle.graph.specs.Refusing.{Check, Verdict, passed, verdict, input-checks, state-checks, still-below, closed-checks, declare-checks, lift-checks}
+use Rattle.graph.specs.Refusing.{Check, Verdict, passed, verdict, input-checks, state-checks, still-below, closed-checks, declare-checks, lift-checks, Passes, First}
 use Rattle.graph.specs.Refusing as refusing
-use Rattle.graph.proofs.Refusals.{Passes, passed-passes, verdict-passes}
+use Rattle.graph.proofs.Refusals.{passed-passes, verdict-passes}
 use Rattle.graph.proofs.Judging.{stops, moves-on}
 use Rattle.seats.specs.Seats.{State}
 use Rattle.seats.specs.Calls.{Call, change, declare, lift, assign, unassign, ask, Answer, refused, seat-checks, checks, settle, is-refusal}
-use Rattle.seats.specs.Demands.{First, None, OfCall}
+use Rattle.seats.specs.Demands.{OfCall}
 use Rattle.seats.proofs.JudgedCalls.{settle-refused, settle-passed}
 
 no-refusal : {n p : ℕ} → passed ≡ refusing.refused n p → ⊥
@@ -49,17 +49,6 @@ refuses-first (c ∷ l) n p e =
     here : T (c .holds) → refusing.refused (c .number) (c .place) ≡ refusing.refused n p → T (c .holds) × (c .number ≡ n) × (c .place ≡ p)
     here t q = (t, cc, cc)
 
--- That no check holds, as the laws of graphs say it.
-pub none-passes : (l : List Check) → None l → Passes l
-unfolding None Passes
-none-passes [] t = tt
-none-passes (c ∷ l) (f, t) = (f, none-passes l t)
-
-pub passes-none : (l : List Check) → Passes l → None l
-unfolding None Passes
-passes-none [] t = tt
-passes-none (c ∷ l) (f, t) = (f, passes-none l t)
-
 -- ---- what is judged by a list of checks
 
 -- What z is by the list l, with the answer a and the state h where nothing refuses.
@@ -68,7 +57,7 @@ pub record Settles {S : Type 0} (l : List Check) (a : Answer) (s h : S) (z : Ans
   pub refused-iff : (n p : ℕ) → (z .0 ≡ refused n p) ↔ First l n p
   pub refused-leaves : (n p : ℕ) → z .0 ≡ refused n p → z .1 ≡ s
   -- It is accepted exactly where no check holds, with its own answer and state.
-  pub accepted-iff : (is-refusal (z .0) ≡ false) ↔ None l
+  pub accepted-iff : (is-refusal (z .0) ≡ false) ↔ Passes l
   pub accepted-gives : is-refusal (z .0) ≡ false → z ≡ (a, h)
 
 module _ {S : Type 0} (l : List Check) (a : Answer) (own : is-refusal a ≡ false) (s h : S) (z : Answer × S) (e : z ≡ settle (verdict l) a s h) where
@@ -81,7 +70,7 @@ module _ {S : Type 0} (l : List Check) (a : Answer) (own : is-refusal a ≡ fals
       record {
         refused-iff = λ n p. (λ f. absurd (no n p f), λ f. absurd (no-refusal (sym v ∙ first-refuses l n p f)));
         refused-leaves = λ n p f. absurd (no n p f);
-        accepted-iff = (λ _. passes-none l (passed-passes l v), λ _. r);
+        accepted-iff = (λ _. passed-passes l v, λ _. r);
         accepted-gives = λ _. q;
       }
 
@@ -97,7 +86,7 @@ module _ {S : Type 0} (l : List Check) (a : Answer) (own : is-refusal a ≡ fals
           λ f. q₀ ∙ same-answer (sym v ∙ first-refuses l n p f),
         );
         refused-leaves = λ n p f. ap (λ (x : Answer × S). x .1) q;
-        accepted-iff = (λ r. absurd (no r), λ t. absurd (no-refusal (sym (verdict-passes l (none-passes l t)) ∙ v)));
+        accepted-iff = (λ r. absurd (no r), λ t. absurd (no-refusal (sym (verdict-passes l t) ∙ v)));
         accepted-gives = λ r. absurd (no r);
       }
 

@@ -14,10 +14,10 @@ use Rattle.graph.specs.Graph.{Graph, privilege-count, is-end, ordinary}
 use Rattle.graph.specs.Conflicts.{declared}
 use Rattle.graph.specs.Drawing.{redraw}
 use Rattle.graph.specs.Editing.{Change, add-by-place, add-by-privileges, remove-role, grant, withdraw, add-edge, remove-edge, edit, changed}
-use Rattle.graph.specs.Refusing.{input-checks, declare-checks, lift-checks}
+use Rattle.graph.specs.Refusing.{input-checks, declare-checks, lift-checks, Passes}
 use Rattle.graph.proofs.Tables.{put-test, take-out-test}
 use Rattle.graph.proofs.Conflicts.{declare-test, lift-test}
-use Rattle.graph.proofs.Refusals.{Passes, parts, number-lt, not-equal}
+use Rattle.graph.proofs.Refusals.{parts, number-lt, not-equal}
 use Rattle.seats.specs.Bytes.{Bytes}
 use Rattle.seats.specs.Seats.{State, seat-count, assigned}
 use Rattle.seats.specs.Calls.{Call, change, declare, lift, assign, unassign, ask, Answer, checks, with-graph, with-conflicts, with-seats, after, is-refusal}

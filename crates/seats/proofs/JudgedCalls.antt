@@ -7,9 +7,9 @@ use mathlib.Core.List.{List}
 use Prim.Native.Nat.{ℕ}
 use lib.Dec.{T}
 use Rattle.lists.proofs.Settling as laws
-use Rattle.graph.specs.Refusing.{Check, Verdict, passed, verdict}
+use Rattle.graph.specs.Refusing.{Check, Verdict, passed, verdict, Passes}
 use Rattle.graph.specs.Refusing as refusing
-use Rattle.graph.proofs.Refusals.{Passes, passed-passes, verdict-passes}
+use Rattle.graph.proofs.Refusals.{passed-passes, verdict-passes}
 use Rattle.seats.specs.Calls.{Answer, refused, judged, settle, is-refusal}
 
 -- What settling comes to at a verdict.

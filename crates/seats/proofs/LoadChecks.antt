@@ -12,10 +12,10 @@ use borrow.Author.Tests.{lt-ltb, le-ltb, le-leb, lt-leb, eq-eqb, ne-eqb}
 use Rattle.sets.specs.Sets.{empty, union, included}
 use Rattle.sets.proofs.Tests.{both, join, passes, fails, decide}
 use Rattle.graph.specs.Graph.{privilege-count}
-use Rattle.graph.specs.Refusing.{Check, Verdict, passed, refused, verdict}
+use Rattle.graph.specs.Refusing.{Check, Verdict, passed, refused, verdict, Passes}
 use Rattle.graph.specs.Reading.{read-verdict}
 use Rattle.graph.specs.declared.Verdict.the-variants.{Passed, Refused}
-use Rattle.graph.proofs.Refusals.{Passes, verdict-passes}
+use Rattle.graph.proofs.Refusals.{verdict-passes}
 use Rattle.graph.proofs.Judging.{stops, moves-on, refused-first, passed-first}
 use Rattle.seats.specs.Seats.{State, seat-count}
 use Rattle.seats.specs.Images.{Entry, least-image, Counts, distance, Contents, far-at, counts-at, contents, keys, stored, stored-pairs, end-sets, restored, no-ordinary-number, entry-checks, content-checks, Loaded, loaded, not-loaded, judged, unless-refused, load-contents, load-trailer, load}

@@ -11,10 +11,10 @@ use lib.Dec.{T, T-not, not-T, eqb, leb, leb→le, ltb, ltb→lt}
 use Rattle.sets.specs.Sets.{empty, included}
 use Rattle.sets.proofs.Tests.{both, either, or-left, or-right, so, test-equal}
 use Rattle.graph.specs.Graph.{role-count, is-end, privilege-count}
-use Rattle.graph.specs.Refusing.{Verdict, passed, refused, verdict}
+use Rattle.graph.specs.Refusing.{Verdict, passed, refused, verdict, Passes}
 use Rattle.seats.specs.Seats.{State, seat-count}
 use Rattle.seats.specs.Images.{Entry, Contents, trailer-length, least-image, distance, far-at, counts-at, contents, keys, restored, pair-place, no-ordinary-number, entry-checks, content-checks, Loaded, loaded, not-loaded, unless-refused, load-contents, load-trailer, load}
-use Rattle.graph.proofs.Refusals.{Passes, parts, passed-passes, number-lt}
+use Rattle.graph.proofs.Refusals.{parts, passed-passes, number-lt}
 use Rattle.seats.proofs.EntryBytes.{Each, each-map, each-zip}
 use Rattle.seats.proofs.AscendingEntries.{Rising, ordered-rising, rising-ordered, none-each, each-none}
 use Rattle.seats.proofs.StoredPairs.{Pair}

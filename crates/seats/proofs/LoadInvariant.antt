@@ -17,7 +17,7 @@ use Rattle.sets.proofs.Laws.{included-member}
 use Rattle.sets.proofs.Members.{in-empty}
 use Rattle.graph.specs.Tables.{at}
 use Rattle.graph.specs.Graph.{role-count, privilege-count, max-role, ordinary, present, effective}
-use Rattle.graph.specs.Refusing.{closed-checks}
+use Rattle.graph.specs.Refusing.{closed-checks, Passes}
 use Rattle.graph.specs.Invariants.{Table, Formed, Distinct, PairFree}
 use Rattle.graph.proofs.Tables.{at-replicate}
 use Rattle.graph.proofs.Order.{ordinary-join, end-present, member-present, ordinary-lt}
@@ -25,7 +25,7 @@ use Rattle.seats.specs.Bytes.{Bytes}
 use Rattle.seats.specs.Seats.{State, seat-count, assigned, pair-seat}
 use Rattle.seats.specs.Invariants.{Invariant}
 use Rattle.seats.specs.Images.{Entry, set-bytes, role-set-bytes, distance, Contents, counts-at, contents, keys, stored, end-sets, restored, content-checks, loaded, load}
-use Rattle.graph.proofs.Refusals.{Passes, closed-from}
+use Rattle.graph.proofs.Refusals.{closed-from}
 use Rattle.seats.proofs.Numbers.{number-lt}
 use Rattle.seats.proofs.EntryBytes.{Each, each-map, entries-lt}
 use Rattle.seats.proofs.AscendingEntries.{there, some-one}

@@ -11,6 +11,7 @@ use Rattle.graph.specs.Refusing.{Check, Verdict, passed, verdict}
 use Rattle.graph.specs.Refusing as refusing
 use Rattle.seats.specs.Seats.{State}
 use Rattle.seats.specs.Calls.{accepted, refused}
+use Rattle.seats.specs.Demands.{OfLoad}
 use Rattle.seats.specs.Images.{least-image, distance, Contents, far-at, counts-at, contents, restored, entry-checks, content-checks, Loaded, loaded, not-loaded, unless-refused, load-contents, load-trailer, load, settle-load, load-over}
 
 pub load-refused-keeps : (s : State) (l : List ℕ) (n p : ℕ) → load l ≡ not-loaded n p → load-over s l ≡ (refused n p, s)
@@ -23,7 +24,7 @@ load-accepted-takes s l h e = rw e
 
 -- A refusal of loading: 6, 7 or 8, at place 0.
 abbrev pub OfLoading : ℕ → ℕ → Type 0
-OfLoading n p = ((n ≡ 6) ⊎ (n ≡ 7) ⊎ (n ≡ 8)) × (p ≡ 0)
+OfLoading n p = OfLoad n × (p ≡ 0)
 
 -- Every check of the list has a refusal of loading.
 abbrev Checks : List Check → Type 0

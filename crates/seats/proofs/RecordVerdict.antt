@@ -7,15 +7,14 @@ use mathlib.Core.List.{List, List·Memᴰ}
 use Prim.Native.Nat.{ℕ, _≤_}
 use native.Mathlib.Omega.{arith}
 use lib.Dec.{T}
-use Rattle.graph.specs.Refusing.{Check}
-use Rattle.graph.proofs.Refusals.{Passes}
+use Rattle.graph.specs.Refusing.{Check, Passes}
 use Rattle.graph.proofs.Refusals as refusals
 use Rattle.seats.specs.Seats.{State}
 use Rattle.seats.specs.Calls.{Call, change, declare, lift, assign, unassign, ask, Answer, refused, checks, after, reply, perform, is-refusal}
 use Rattle.seats.specs.Records.{Decoded, malformed, well-formed, decode, perform-decoded, step}
 use Rattle.seats.specs.Demands.{RefusedWith, Unrefused, OfCall}
 use Rattle.seats.proofs.Settling.{performs, checks-ascend}
-use Rattle.seats.proofs.FirstChecks.{no-true, first-refuses, none-passes, Settles, settles, call-number}
+use Rattle.seats.proofs.FirstChecks.{no-true, first-refuses, Settles, settles, call-number}
 
 -- The answer of a call's kind is no refusal.
 own-answer : (s : State) (c : Call) → is-refusal (reply s c) ≡ false
@@ -92,4 +91,4 @@ module _ (s : State) (z : Answer × State) where
 
         pub record-passes : Passes (checks s c (after s c))
         record-passes =
-            none-passes (checks s c (after s c)) (by-checks .accepted-iff .0 r)
+            by-checks .accepted-iff .0 r

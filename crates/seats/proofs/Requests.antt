@@ -18,8 +18,8 @@ use Rattle.sets.proofs.Laws.{member-empty, member-union, member-when, member-si
 use Rattle.graph.specs.Tables.{at, put}
 use Rattle.graph.specs.Graph.{Graph, role-count, privilege-count}
 use Rattle.graph.specs.Conflicts.{holds-both, holds-pair}
-use Rattle.graph.specs.Refusing.{Check, refuse, refuse-lowest, passed, verdict, declare-checks}
-use Rattle.graph.proofs.Refusals.{Passes, passed-passes, number-lt}
+use Rattle.graph.specs.Refusing.{Check, refuse, refuse-lowest, passed, verdict, declare-checks, Passes}
+use Rattle.graph.proofs.Refusals.{passed-passes, number-lt}
 use Rattle.seats.specs.Seats.{State, seat-count, assigned, pair-seat}
 use Rattle.seats.specs.Calls.{assign, after, seat-role-checks}
 

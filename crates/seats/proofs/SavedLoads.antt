@@ -18,14 +18,14 @@ use Rattle.sets.proofs.Laws.{member-lt, member-included}
 use Rattle.sets.proofs.Members.{same-members, no-members}
 use Rattle.graph.specs.Tables.{at}
 use Rattle.graph.specs.Graph.{Graph, role-count, privilege-count, max-role, ordinary, effective}
-use Rattle.graph.specs.Refusing.{closed-checks}
+use Rattle.graph.specs.Refusing.{closed-checks, Passes}
 use Rattle.graph.specs.Invariants.{Formed}
 use Rattle.graph.proofs.Tables.{at-replicate}
 use Rattle.graph.proofs.Order.{ordinary-parts, ordinary-join, present-cases}
 use Rattle.seats.specs.Seats.{State, seat-count, assigned, pair-seat}
 use Rattle.seats.specs.Images.{Entry, role-entries, conflict-entries, seat-entries, contents-of, set-bytes, role-set-bytes, image, keys, stored, end-sets, restored, pair-place, entry-checks, content-checks, loaded, unless-refused, load-contents, load}
 use Rattle.seats.specs.Invariants.{Invariant}
-use Rattle.graph.proofs.Refusals.{Passes, whole, verdict-passes, closed-goes}
+use Rattle.graph.proofs.Refusals.{whole, verdict-passes, closed-goes}
 use Rattle.seats.proofs.EntryBytes.{Each, each-map}
 use Rattle.seats.proofs.AscendingEntries.{valued, rising-by, some-one, each-listed, rising-listed, listed-there}
 use Rattle.seats.proofs.StoredEntries.{filled, member-keys, keys-lt, listed-stored}

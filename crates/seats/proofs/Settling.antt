@@ -7,9 +7,9 @@ use mathlib.Core.List.{List}
 use Prim.Native.Nat.{ℕ}
 use lib.Dec.{T}
 use Rattle.graph.specs.Editing.{add-by-place, add-by-privileges, remove-role, grant, withdraw, add-edge, remove-edge}
-use Rattle.graph.specs.Refusing.{passed, verdict, input-checks, state-checks, still-below, closed-checks, declare-checks, lift-checks}
+use Rattle.graph.specs.Refusing.{passed, verdict, input-checks, state-checks, still-below, closed-checks, declare-checks, lift-checks, Passes}
 use Rattle.graph.specs.Refusing as refusing
-use Rattle.graph.proofs.Refusals.{Passes, ascending-numbers, ascending-from}
+use Rattle.graph.proofs.Refusals.{ascending-numbers, ascending-from}
 use Rattle.seats.proofs.JudgedCalls.{Refuses, Accepts, refused-call, passed-call, call-settles, passing-call, refused-call-leaves, unrefused-call-accepts}
 use Rattle.seats.specs.Seats.{State}
 use Rattle.seats.specs.Calls.{Call, change, declare, lift, assign, unassign, ask, refused, seat-checks, checks, after, reply, settle, perform, is-refusal}

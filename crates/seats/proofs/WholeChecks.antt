@@ -13,11 +13,11 @@ use Rattle.sets.specs.Sets.{member}
 use Rattle.graph.specs.Graph.{role-count, privilege-count, ordinary, effective}
 use Rattle.graph.specs.Conflicts.{declared, same-pair, holds-both, holds-pair}
 use Rattle.graph.specs.Conflicts as conflicts
-use Rattle.graph.specs.Refusing.{Check, refuse, refuse-lowest, verdict, no-privilege-number, pair-of-one, empty-role, twin-role, pair-role, offered-role, closed-checks, declare-checks}
+use Rattle.graph.specs.Refusing.{Check, refuse, refuse-lowest, verdict, no-privilege-number, pair-of-one, empty-role, twin-role, pair-role, offered-role, closed-checks, declare-checks, Passes}
 use Rattle.graph.specs.Invariants.{Paired}
 use Rattle.graph.proofs.Conflicts.{pair-holds, conflict-lt, declared-parts, declare-test, declare-paired}
 use Rattle.graph.proofs.Judging.{stops, moves-on}
-use Rattle.graph.proofs.Refusals.{Passes, number-lt, not-equal}
+use Rattle.graph.proofs.Refusals.{number-lt, not-equal}
 use Rattle.seats.specs.Seats.{State, seat-count, assigned, held, pair-seat, offered-seat}
 use Rattle.seats.specs.Calls.{declare, assign, seat-role-checks, checks, with-graph, with-conflicts, with-seats, after}
 use Rattle.seats.specs.Demands.{closing-checks, whole-declare, whole-assign}

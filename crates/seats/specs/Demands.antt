@@ -14,7 +14,7 @@ use Rattle.graph.specs.Conflicts.{declared}
 use Rattle.graph.specs.Drawing.{Drawing, redraw}
 use Rattle.graph.specs.Closing.{counts, close}
 use Rattle.graph.specs.Editing.{Change, edit}
-use Rattle.graph.specs.Refusing.{Check, refuse, refuse-lowest, verdict, no-privilege-number, pair-of-one, closed-checks}
+use Rattle.graph.specs.Refusing.{Check, refuse, refuse-lowest, verdict, Passes, First, no-privilege-number, pair-of-one, closed-checks}
 use Rattle.graph.specs.Refusing as refusing
 use Rattle.seats.specs.Bytes.{Bytes, written, too-short}
 use Rattle.seats.specs.Bytes as bytes
@@ -66,16 +66,6 @@ Undone s count buffer f left = (left ≡ buffer) × (f .count ≡ count) × (rea
 abbrev pub refuses : Answer → Bool
 refuses a = is-refusal (read-answer a)
 
--- The first check of the list that holds has number n and place p.
-unfoldable pub First : List Check → ℕ → ℕ → Type 0
-First [] n p = ⊥
-First (c ∷ l) n p = (T (c .holds) × (c .number ≡ n) × (c .place ≡ p)) ⊎ ((T (c .holds) → ⊥) × First l n p)
-
--- No check of the list holds.
-unfoldable pub None : List Check → Type 0
-None [] = Unit {0}
-None (c ∷ l) = (T (c .holds) → ⊥) × None l
-
 -- What a record decodes to is refused with number n at place p: with 1 at place 0 where nothing decodes, and else by the first check of the call that holds.
 unfoldable pub RefusedWith : seats.State → Decoded → ℕ → ℕ → Type 0
 RefusedWith s malformed n p = (n ≡ 1) × (p ≡ 0)
@@ -84,7 +74,7 @@ RefusedWith s (well-formed c) n p = First (checks s c (after s c)) n p
 -- What a record decodes to is a call of which no check holds.
 unfoldable pub Unrefused : seats.State → Decoded → Type 0
 Unrefused s malformed = ⊥
-Unrefused s (well-formed c) = None (checks s c (after s c))
+Unrefused s (well-formed c) = Passes (checks s c (after s c))
 
 -- The number of a refusal of a call: 1 to 5, or 20 to 30.
 abbrev pub OfCall : ℕ → Type 0
@@ -218,15 +208,15 @@ pub record DemandTwo : Type 0 where
   pub load-lowest-number : (s t : State) (l : List ℕ) (a : Answer) (n p : ℕ) → LoadPromise s l a t → read-answer a ≡ refused n p
       → (k : Check) → List·Memᴰ k (load-checks l) → T (k .holds) → n ≤ k .number
   -- It is accepted exactly where none holds, and gives the state that the image's entries describe.
-  pub load-accepted-iff : (s t : State) (l : List ℕ) (a : Answer) → LoadPromise s l a t → (read-answer a ≡ accepted) ↔ None (load-checks l)
+  pub load-accepted-iff : (s t : State) (l : List ℕ) (a : Answer) → LoadPromise s l a t → (read-answer a ≡ accepted) ↔ Passes (load-checks l)
   pub load-accepted : (s t : State) (l : List ℕ) (a : Answer) → LoadPromise s l a t → read-answer a ≡ accepted → read-state t ≡ restored (contents-in l)
   -- Reading an image without a state at hand is refused exactly where loading is, and otherwise gives the state that loading gives.
   pub read-refused-iff : (l : List ℕ) (r : ImageRead) (n p : ℕ) → ReadPromise l r → (read-image r .0 ≡ refusing.refused n p) ↔ First (load-checks l) n p
-  pub read-accepted : (l : List ℕ) (r : ImageRead) → ReadPromise l r → None (load-checks l) → read-image r ≡ (refusing.passed, restored (contents-in l))
+  pub read-accepted : (l : List ℕ) (r : ImageRead) → ReadPromise l r → Passes (load-checks l) → read-image r ≡ (refusing.passed, restored (contents-in l))
   -- Measuring is refused with a number and a place exactly where loading is.
   pub measure-refused-iff : (l : List ℕ) (m : Measured) (n p : ℕ) → MeasurePromise l m → (read-measured m ≡ unmeasured n p) ↔ First (load-checks l) n p
   -- Otherwise the image is as long as its trailer says.
-  pub measure-accepted : (l : List ℕ) (m : Measured) → Bytes l → MeasurePromise l m → None (load-checks l) → read-measured m ≡ measured (far-at l (length l))
+  pub measure-accepted : (l : List ℕ) (m : Measured) → Bytes l → MeasurePromise l m → Passes (load-checks l) → read-measured m ≡ measured (far-at l (length l))
   -- A save is refused exactly where the buffer has fewer bytes than the image.
   pub save-refused-iff : (s : seats.State) (buffer left : List ℕ) (f : Filled) (n p : ℕ) → SavePromise s buffer f left
       → (read-filled f ≡ too-short n p) ↔ ((n ≡ 9) × (p ≡ 0) × (length buffer < length (image s)))
