@@ -20,7 +20,7 @@ use Rattle.seats.specs.Seats as seats
 use Rattle.seats.specs.Calls.{Call, change, declare, lift, assign, unassign, ask, accepted, refused, checks, with-graph, with-conflicts, with-seats, after, is-refusal}
 use Rattle.seats.specs.Calls as calls
 use Rattle.seats.specs.Records.{well-formed, decode, step}
-use Rattle.seats.specs.Images.{least-image, image, far-at, restored, Loaded, loaded, not-loaded, load, judged, load-over, settle-load, measure}
+use Rattle.seats.specs.Images.{least-image, image, far-at, restored, Loaded, loaded, not-loaded, load, image-verdict, load-over, settle-load, measure}
 use Rattle.seats.specs.Saving.{save}
 use Rattle.seats.specs.Lists.{end}
 use Rattle.seats.specs.Tape.{records, feed}
@@ -81,7 +81,7 @@ pub demand-one : DemandOne
 demand-one = record {
   call-answered = λ s l. one-outcome (step (read-state s) l);
   load-answered = λ s l. one-outcome (load-over (read-state s) l);
-  read-answered = λ l. one-image (judged (load l));
+  read-answered = λ l. one-image (image-verdict (load l));
   measure-answered = λ l. one-measured (measure l);
   save-answered = λ s buffer. one-left (save s buffer);
   part-answered = λ s count part buffer. one-part (feed (read-state s) count part buffer);

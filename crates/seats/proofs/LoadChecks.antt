@@ -18,7 +18,7 @@ use Rattle.graph.specs.declared.Verdict.the-variants.{Passed, Refused}
 use Rattle.graph.proofs.Refusals.{verdict-passes}
 use Rattle.graph.proofs.Judging.{stops, moves-on, refused-first, passed-first}
 use Rattle.seats.specs.Seats.{State, seat-count}
-use Rattle.seats.specs.Images.{Entry, least-image, Counts, distance, Contents, far-at, counts-at, contents, keys, stored, stored-pairs, end-sets, restored, no-ordinary-number, entry-checks, content-checks, Loaded, loaded, not-loaded, judged, unless-refused, load-contents, load-trailer, load}
+use Rattle.seats.specs.Images.{Entry, least-image, Counts, distance, Contents, far-at, counts-at, contents, keys, stored, stored-pairs, end-sets, restored, no-ordinary-number, entry-checks, content-checks, Loaded, loaded, not-loaded, image-verdict, unless-refused, load-contents, load-trailer, load}
 use Rattle.seats.specs.ImageWork.{Part, Roles, Conflicts, Seats, entry-place, entry-passes, store-entries, ascends, ContentsRead}
 use Rattle.seats.proofs.EntryBytes.{Each, each-map}
 use Rattle.seats.proofs.AscendingEntries.{Rising}
@@ -194,12 +194,12 @@ module _ (l : List ℕ) {far : ℕ} {n : Counts} (long : least-image ≤ length 
     contents-decide h = trailer-decides ∙ rw (eq-eqb far (distance n) e, le-leb far (length l) h)
 
 -- ---- what reading an image gives
-pub read-refused : (x : Loaded) (n : ℕ) → x ≡ not-loaded n 0 → {r : Verdict × State} → r ≡ judged (not-loaded n 0) → r ≡ judged x
-read-refused x n e q = q ∙ ap judged (sym e)
+pub read-refused : (x : Loaded) (n : ℕ) → x ≡ not-loaded n 0 → {r : Verdict × State} → r ≡ image-verdict (not-loaded n 0) → r ≡ image-verdict x
+read-refused x n e q = q ∙ ap image-verdict (sym e)
 
-pub read-passed : (x : Loaded) (s : State) → x ≡ loaded s → _≡_ {A = Verdict × State} (passed, s) (judged x)
-unfolding judged
-read-passed x s e = ap judged (sym e)
+pub read-passed : (x : Loaded) (s : State) → x ≡ loaded s → _≡_ {A = Verdict × State} (passed, s) (image-verdict x)
+unfolding image-verdict
+read-passed x s e = ap image-verdict (sym e)
 
 -- A verdict that passes is no refusal.
 abbrev Goes : Verdict → Type 0
@@ -212,18 +212,18 @@ refusal-of passed = not-loaded 0 0
 refusal-of (refused n p) = not-loaded n p
 
 -- And back, from what was read.
-passed-read : (x : Loaded) (s : State) → _≡_ {A = Verdict × State} (passed, s) (judged x) → x ≡ loaded s
-unfolding judged
+passed-read : (x : Loaded) (s : State) → _≡_ {A = Verdict × State} (passed, s) (image-verdict x) → x ≡ loaded s
+unfolding image-verdict
 passed-read (loaded h) s e = ap (λ (z : Verdict × State). loaded (z .1)) (sym e)
 passed-read (not-loaded n p) s e = absurd (subst Goes (ap (λ (z : Verdict × State). z .0) e) tt)
 
-refused-read : (x : Loaded) (n p : ℕ) (s : State) → _≡_ {A = Verdict × State} (refused n p, s) (judged x) → x ≡ not-loaded n p
-unfolding judged
+refused-read : (x : Loaded) (n p : ℕ) (s : State) → _≡_ {A = Verdict × State} (refused n p, s) (image-verdict x) → x ≡ not-loaded n p
+unfolding image-verdict
 refused-read (loaded h) n p s e = absurd (subst Goes (sym (ap (λ (z : Verdict × State). z .0) e)) tt)
 refused-read (not-loaded m q) n p s e = ap (λ (z : Verdict × State). refusal-of (z .0)) (sym e)
 
-pub loads-passed : (l : List ℕ) (s : State) → _≡_ {A = Verdict × State} (passed, s) (judged (load l)) → load l ≡ loaded s
+pub loads-passed : (l : List ℕ) (s : State) → _≡_ {A = Verdict × State} (passed, s) (image-verdict (load l)) → load l ≡ loaded s
 loads-passed l s e = passed-read (load l) s e
 
-pub loads-refused : (l : List ℕ) (n p : ℕ) (s : State) → _≡_ {A = Verdict × State} (refused n p, s) (judged (load l)) → load l ≡ not-loaded n p
+pub loads-refused : (l : List ℕ) (n p : ℕ) (s : State) → _≡_ {A = Verdict × State} (refused n p, s) (image-verdict (load l)) → load l ≡ not-loaded n p
 loads-refused l n p s e = refused-read (load l) n p s e

@@ -63,18 +63,18 @@ load-checks-ascend l = refl
 
 -- ---- reading and measuring
 
-judged-by : (v : Verdict) (h : State) → images.judged (unless-refused v h) .0 ≡ v
-unfolding images.judged unless-refused
+judged-by : (v : Verdict) (h : State) → images.image-verdict (unless-refused v h) .0 ≡ v
+unfolding images.image-verdict unless-refused
 judged-by passed h = refl
 judged-by (refusing.refused n p) h = refl
 
 -- An image is read with the verdict of loading, and as the state that its entries describe where nothing refuses it.
-pub read-judged : (l : List ℕ) → images.judged (load l) .0 ≡ verdict (load-checks l)
-read-judged l = ap (λ (x : Loaded). images.judged x .0) (load-judged l) ∙ judged-by (verdict (load-checks l)) (restored (contents-in l))
+pub read-judged : (l : List ℕ) → images.image-verdict (load l) .0 ≡ verdict (load-checks l)
+read-judged l = ap (λ (x : Loaded). images.image-verdict x .0) (load-judged l) ∙ judged-by (verdict (load-checks l)) (restored (contents-in l))
 
-pub read-passed : (l : List ℕ) → verdict (load-checks l) ≡ passed → images.judged (load l) ≡ (passed, restored (contents-in l))
-unfolding images.judged unless-refused
-read-passed l v = ap images.judged (load-judged l ∙ ap (λ (w : Verdict). unless-refused w (restored (contents-in l))) v)
+pub read-passed : (l : List ℕ) → verdict (load-checks l) ≡ passed → images.image-verdict (load l) ≡ (passed, restored (contents-in l))
+unfolding images.image-verdict unless-refused
+read-passed l v = ap images.image-verdict (load-judged l ∙ ap (λ (w : Verdict). unless-refused w (restored (contents-in l))) v)
 
 measured-by : (v : Verdict) (h : State) (n p : ℕ) → (measure-loaded (unless-refused v h) ≡ unmeasured n p) ↔ (v ≡ refusing.refused n p)
 unfolding measure-loaded unless-refused

@@ -253,9 +253,9 @@ load l =
     cond (ltb end least-image) (not-loaded 6 0) (load-trailer l (far-at l end) (counts-at l end))
 
 -- The verdict on what is loaded, and the state; a refused image has a fresh one.
-unfoldable pub judged : Loaded → Verdict × State
-judged (loaded s) = (passed, s)
-judged (not-loaded n p) = (refusing.refused n p, fresh)
+unfoldable pub image-verdict : Loaded → Verdict × State
+image-verdict (loaded s) = (passed, s)
+image-verdict (not-loaded n p) = (refusing.refused n p, fresh)
 
 -- How long the image of what was loaded is, or the refusal.
 pub data Measured : Type 0 where

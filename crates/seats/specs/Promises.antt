@@ -9,7 +9,7 @@ use Rattle.seats.specs.Seats.{fresh}
 use Rattle.seats.specs.Seats as seats
 use Rattle.seats.specs.Calls.{accepted}
 use Rattle.seats.specs.Records.{step}
-use Rattle.seats.specs.Images.{load, judged, load-over, measure}
+use Rattle.seats.specs.Images.{load, image-verdict, load-over, measure}
 use Rattle.seats.specs.Saving.{save}
 use Rattle.seats.specs.Tape.{feed}
 use Rattle.seats.specs.Lists.{answers, end}
@@ -36,7 +36,7 @@ LoadPromise s l a t = (read-answer a, read-state t) ≡ load-over (read-state s)
 
 -- By the bytes l, reading the image that ends them, with no state at hand, gives r.
 abbrev pub ReadPromise : List ℕ → ImageRead → Type 0
-ReadPromise l r = read-image r ≡ judged (load l)
+ReadPromise l r = read-image r ≡ image-verdict (load l)
 
 -- By the bytes l, measuring the image that ends them gives m.
 abbrev pub MeasurePromise : List ℕ → Measured → Type 0

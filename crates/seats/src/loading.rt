@@ -11,7 +11,7 @@ ghost use Rattle.graph.specs.Refusing.{passed, verdict};
 ghost use Rattle.graph.specs.Refusing as refusing;
 ghost use Rattle.graph.specs.Reading.{sets-in, drawn-from};
 ghost use Rattle.seats.specs.Seats.{seat-count};
-ghost use Rattle.seats.specs.Images.{set-bytes, role-set-bytes, privilege-bytes, role-width, conflict-width, seat-width, distance, entries-at, contents, content-checks, trailer-length, far-at, load-contents, not-loaded, judged};
+ghost use Rattle.seats.specs.Images.{set-bytes, role-set-bytes, privilege-bytes, role-width, conflict-width, seat-width, distance, entries-at, contents, content-checks, trailer-length, far-at, load-contents, not-loaded, image-verdict};
 ghost use Rattle.seats.specs.Reading.{state-of, read-image, read-counts};
 ghost use Rattle.seats.specs.Promises.{ReadPromise, LoadPromise, MeasurePromise};
 ghost use Rattle.seats.specs.ImageWork.{Roles, Conflicts, Seats, entry-at, value-bytes, part-width, entry-place, entry-passes, store-entries, table-in, EntryTaken, EntriesRead, ContentsRead};
@@ -314,7 +314,7 @@ fn far_back(bytes: &[u8]) -> usize
 
 // A refusal of an image, at place 0.
 fn refuse(number: u8) -> ImageRead
-    ensures { λ r. ⌜ read-image r ≡ judged (not-loaded number 0) ⌝ }
+    ensures { λ r. ⌜ read-image r ≡ image-verdict (not-loaded number 0) ⌝ }
 {
     ImageRead {
         verdict: Verdict::Refused(Refusal { number, place: 0 }),
@@ -325,7 +325,7 @@ fn refuse(number: u8) -> ImageRead
 // The state that the contents at a place describe, or the refusal of them.
 fn read_state(bytes: &[u8], at: usize, counts: Counts) -> ImageRead
     requires { ⌜ at + distance (read-counts counts) ≤ length (now bytes) ⌝ }
-    ensures { λ r. ⌜ read-image r ≡ judged (load-contents (contents (now (bytes .entry)) at (read-counts counts))) ⌝ }
+    ensures { λ r. ⌜ read-image r ≡ image-verdict (load-contents (contents (now (bytes .entry)) at (read-counts counts))) ⌝ }
 {
     let mut sets = [0u64; 64];
     let mut conflicts = [0u64; 64];

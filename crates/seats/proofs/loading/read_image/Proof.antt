@@ -4,7 +4,7 @@ use borrow.Author.Needs.{needs}
 use mathlib.Core.Path.{_≡_, sym, ap, _∙_}
 use Prim.Native.Nat.{_-_}
 use lib.ListN.{length}
-use Rattle.seats.specs.Images.{contents, load-contents, load, judged}
+use Rattle.seats.specs.Images.{contents, load-contents, load, image-verdict}
 use Rattle.seats.specs.Reading.{read-counts}
 use Rattle.seats.proofs.LoadChecks.{too-few-bytes, other-distance, beyond-bytes, contents-decide, read-refused}
 use Rattle.seats.proofs.loading.read_image.Statement.{statement}
@@ -45,7 +45,7 @@ read-state-requires : tie.Need-read-state-requires
 read-state-requires c κs = search needs
 
 returns-4 : tie.Need-returns-4
-returns-4 c = c .read-state .ensures ∙ ap judged (sym (placed (c .before)))
+returns-4 c = c .read-state .ensures ∙ ap image-verdict (sym (placed (c .before)))
 
 pub read-image-spec : {M : Type 1} → statement M
 read-image-spec =

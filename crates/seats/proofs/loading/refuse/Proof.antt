@@ -4,12 +4,12 @@ use mathlib.Core.Path.{ap}
 use Rattle.graph.specs.Refusing.{refused}
 use Rattle.graph.specs.Reading.{read-verdict}
 use Rattle.seats.specs.Seats.{State}
-use Rattle.seats.specs.Images.{judged}
+use Rattle.seats.specs.Images.{image-verdict}
 use Rattle.seats.proofs.loading.refuse.Statement.{statement}
 use Rattle.seats.proofs.loading.refuse.Tie as tie
 
 returns : tie.Need-returns
-unfolding judged read-verdict
+unfolding image-verdict read-verdict
 returns c = ap (λ (s : State). (refused (c .before .args .number) 0, s)) (c .fresh .ensures)
 
 pub refuse-spec : {M : Type 1} → statement M
