@@ -8,7 +8,7 @@ use Rattle.sets.specs.Counting.{any, lowest}
 use Rattle.sets.specs.Sets.{member}
 use Rattle.graph.specs.Graph.{Graph, role-count, present}
 use Rattle.graph.specs.Refusing.{Check, Verdict, passed, refused, verdict, keep}
-use Rattle.graph.specs.Searching.{Found, nothing, found, first}
+use Rattle.graph.specs.Searching.{Found, nothing, found, lowest-found}
 use Rattle.graph.specs.Reading.{drawn-from, read-verdict, read-found}
 use Rattle.graph.specs.declared.Refusal.{Refusal}
 use Rattle.graph.specs.declared.Verdict.the-variants.{the-data, Passed, Refused}
@@ -85,8 +85,8 @@ unfolding present
 present-by roles sets r e t = sym e ∙ t
 
 -- So does a search among the absent roles.
-pub absent-by : (roles : ℕ) (sets : List ℕ) (s : ℕ) {x : Found} → x ≡ first role-count (λ n. member n s && not (present (drawn-from roles []) n))
-    → x ≡ first role-count (λ n. member n s && not (present (drawn-from roles sets) n))
+pub absent-by : (roles : ℕ) (sets : List ℕ) (s : ℕ) {x : Found} → x ≡ lowest-found role-count (λ n. member n s && not (present (drawn-from roles []) n))
+    → x ≡ lowest-found role-count (λ n. member n s && not (present (drawn-from roles sets) n))
 unfolding present
 absent-by roles sets s e = e
 
@@ -99,8 +99,8 @@ place-of : Found → ℕ
 place-of nothing = 0
 place-of (found p) = p
 
-some-passes : (k : ℕ) (f : ℕ → Bool) → is-found (first k f) ≡ any k f
-unfolding is-found first
+some-passes : (k : ℕ) (f : ℕ → Bool) → is-found (lowest-found k f) ≡ any k f
+unfolding is-found lowest-found
 some-passes k f = go (any k f)
   where
     go : (b : Bool) → is-found (cond b (found (lowest k f)) nothing) ≡ b
@@ -108,7 +108,7 @@ some-passes k f = go (any k f)
     go false = refl
 
 -- A search found a place, the lowest that passes, or nothing.
-module _ (k : ℕ) (f : ℕ → Bool) {x : founds.the-data} (e : read-found x ≡ first k f) where
+module _ (k : ℕ) (f : ℕ → Bool) {x : founds.the-data} (e : read-found x ≡ lowest-found k f) where
   pub place-found : {p : ℕ} → x ≡ founds.At p → any k f ≡ true
   unfolding is-found read-found
   place-found d = sym (ap is-found e ∙ some-passes k f) ∙ ap (λ (y : founds.the-data). is-found (read-found y)) d
@@ -118,7 +118,7 @@ module _ (k : ℕ) (f : ℕ → Bool) {x : founds.the-data} (e : read-found x �
   place-none d = sym (ap is-found e ∙ some-passes k f) ∙ ap (λ (y : founds.the-data). is-found (read-found y)) d
 
   pub place-lowest : {p : ℕ} → x ≡ founds.At p → p ≡ lowest k f
-  unfolding place-of read-found first
+  unfolding place-of read-found lowest-found
   place-lowest d =
       sym (ap (λ (y : founds.the-data). place-of (read-found y)) d) ∙ ap place-of e
       ∙ ap (λ (b : Bool). place-of (cond b (found (lowest k f)) nothing)) (place-found d)

@@ -22,34 +22,34 @@ use Rattle.graph.specs.Graph.{Graph, role-count, min-role, max-role, ord
 use Rattle.graph.specs.Conflicts.{conflict}
 use Rattle.graph.specs.Drawing.{below}
 use Rattle.graph.specs.Refusing.{at-or-below}
-use Rattle.graph.specs.Searching.{nothing, found, first}
+use Rattle.graph.specs.Searching.{nothing, found, lowest-found}
 use Rattle.graph.proofs.DrawingCode.{ordinary-member, member-with, below-tests}
 use Rattle.graph.proofs.Loops.{Left, left-all, left-lowest, left-falls}
 
 -- ---- what a search finds
 -- The lowest number that passes is found.
-pub first-is : (k : ℕ) (f : ℕ → Bool) {i : ℕ} → i < k → T (f i) → i ≡ lowest k f → found i ≡ first k f
-unfolding first
-first-is k f {i} l t e = ap found e ∙ sym (rw (passes (any k f) (some-any k f i l t)))
+pub found-is : (k : ℕ) (f : ℕ → Bool) {i : ℕ} → i < k → T (f i) → i ≡ lowest k f → found i ≡ lowest-found k f
+unfolding lowest-found
+found-is k f {i} l t e = ap found e ∙ sym (rw (passes (any k f) (some-any k f i l t)))
 
 -- Where none passes, nothing is found.
-pub first-none : (k : ℕ) (f : ℕ → Bool) → any k f ≡ false → nothing ≡ first k f
-unfolding first
-first-none k f e = sym (rw e)
+pub found-none : (k : ℕ) (f : ℕ → Bool) → any k f ≡ false → nothing ≡ lowest-found k f
+unfolding lowest-found
+found-none k f e = sym (rw e)
 
-pub first-cong : (k : ℕ) (f g : ℕ → Bool) → ((i : ℕ) → i < k → f i ≡ g i) → first k f ≡ first k g
-unfolding first
-first-cong k f g h = ap₂ (λ (t : Bool) (p : ℕ). cond t (found p) nothing) (any-cong k f g h) (lowest-cong k f g h)
+pub found-cong : (k : ℕ) (f g : ℕ → Bool) → ((i : ℕ) → i < k → f i ≡ g i) → lowest-found k f ≡ lowest-found k g
+unfolding lowest-found
+found-cong k f g h = ap₂ (λ (t : Bool) (p : ℕ). cond t (found p) nothing) (any-cong k f g h) (lowest-cong k f g h)
 
 -- The lowest member of a set that has one is found in it.
-pub first-member : (w s : ℕ) → s < 2 ^ w → s ≢ 0 → found (lowest-member w s) ≡ first w (λ n. member n s)
+pub found-member : (w s : ℕ) → s < 2 ^ w → s ≢ 0 → found (lowest-member w s) ≡ lowest-found w (λ n. member n s)
 unfolding lowest-member
-first-member w s h some = first-is w (λ n. member n s) (lowest-below w s h some) (lowest-in w s h some) refl
+found-member w s h some = found-is w (λ n. member n s) (lowest-below w s h some) (lowest-in w s h some) refl
 
 -- The empty set has no member to be found.
-pub first-empty : (w : ℕ) {s : ℕ} → s ≡ 0 → nothing ≡ first w (λ n. member n s)
-first-empty w {s} e =
-    first-none w (λ n. member n s)
+pub found-empty : (w : ℕ) {s : ℕ} → s ≡ 0 → nothing ≡ lowest-found w (λ n. member n s)
+found-empty w {s} e =
+    found-none w (λ n. member n s)
     (fails (any w (λ n. member n s)) (λ t. let (n, _, m) = any-some w (λ n. member n s) t in in-empty n (subst (λ (i : ℕ). T (member n i)) e m)))
 
 -- ---- two sets
@@ -103,9 +103,9 @@ module _ {w : ℕ} {f : ℕ → Bool} {all rest : ℕ} (s : Search w f all rest)
   visit-in = s .left .within r visit-rest
 
   -- It passes, and is the lowest that does.
-  pub hit : f r ≡ true → found r ≡ first w (λ n. member n all && f n)
+  pub hit : f r ≡ true → found r ≡ lowest-found w (λ n. member n all && f n)
   hit t =
-      first-is w (λ n. member n all && f n) visit-lt (join (member r all) (f r) visit-in (rw t tt))
+      found-is w (λ n. member n all && f n) visit-lt (join (member r all) (f r) visit-in (rw t tt))
       (e ∙ sym (search-found f w all rest (s .left .fits) some (s .left .within) (s .searched) (ap f (sym e) ∙ t)))
 
   pub any-hit : f r ≡ true → true ≡ any w (λ n. member n all && f n)
@@ -187,8 +187,8 @@ module _ {w : ℕ} {f : ℕ → Bool} {all rest : ℕ} (s : Search w f all rest)
       let e = search-done f w all (subst (λ (i : ℕ). Searched f all i) z (s .searched)) in
       omega arith))
 
-  pub miss : nothing ≡ first w (λ n. member n all && f n)
-  miss = first-none w (λ n. member n all && f n) (sym any-miss)
+  pub miss : nothing ≡ lowest-found w (λ n. member n all && f n)
+  miss = found-none w (λ n. member n all && f n) (sym any-miss)
 
 -- ---- ordinary roles
 -- A search among the ordinary roles starts with all of them.
@@ -199,8 +199,8 @@ module _ (g : Graph) (f : ℕ → Bool) where
   passes-ordinary : (n : ℕ) → member n (difference (g .roles) end-roles) && f n ≡ ordinary g n && f n
   passes-ordinary n = ap (λ (b : Bool). b && f n) (ordinary-member g n)
 
-  pub among-ordinary : first role-count (λ n. member n (difference (g .roles) end-roles) && f n) ≡ first role-count (λ n. ordinary g n && f n)
-  among-ordinary = first-cong role-count _ _ (λ n _. passes-ordinary n)
+  pub among-ordinary : lowest-found role-count (λ n. member n (difference (g .roles) end-roles) && f n) ≡ lowest-found role-count (λ n. ordinary g n && f n)
+  among-ordinary = found-cong role-count _ _ (λ n _. passes-ordinary n)
 
   pub any-ordinary : any role-count (λ n. member n (difference (g .roles) end-roles) && f n) ≡ any role-count (λ n. ordinary g n && f n)
   any-ordinary = any-cong role-count _ _ (λ n _. passes-ordinary n)

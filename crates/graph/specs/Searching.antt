@@ -9,5 +9,5 @@ pub data Found : Type 0 where
   found : ℕ → Found
 
 -- What a search below n finds: nothing where no number passes, and otherwise the lowest that does.
-unfoldable pub first : ℕ → (ℕ → Bool) → Found
-first n f = cond (any n f) (found (lowest n f)) nothing
+unfoldable pub lowest-found : ℕ → (ℕ → Bool) → Found
+lowest-found n f = cond (any n f) (found (lowest n f)) nothing

@@ -12,7 +12,7 @@ ghost use Rattle.graph.specs.Conflicts.{holds-both, holds-pair};
 ghost use Rattle.graph.specs.Drawing.{below};
 ghost use Rattle.graph.specs.Refusing.{at-or-below, empty-role, twin-role, pair-role, offered-role};
 ghost use Rattle.graph.specs.Reading.{read-set, sets-in, drawn-from, graph-of, read-found};
-ghost use Rattle.graph.specs.Searching.{first};
+ghost use Rattle.graph.specs.Searching.{lowest-found};
 use crate::END_ROLES;
 use crate::Found;
 use crate::MIN_ROLE;
@@ -33,7 +33,7 @@ fn lowest_role(s: u64) -> u8
 
 // The lowest role of any set.
 fn lowest_in(s: u64) -> Found
-    ensures { λ r. ⌜ read-found r ≡ first role-count (λ n. member n s) ⌝ }
+    ensures { λ r. ⌜ read-found r ≡ lowest-found role-count (λ n. member n s) ⌝ }
 {
     if s == 0 {
         return Found::Nothing;
@@ -43,7 +43,7 @@ fn lowest_in(s: u64) -> Found
 
 // The lowest ordinary role whose set is empty.
 pub fn empty_role(roles: u64, sets: &[u64]) -> Found
-    ensures { λ r. ⌜ read-found r ≡ first role-count (empty-role (drawn-from roles (now (sets .entry)))) ⌝ }
+    ensures { λ r. ⌜ read-found r ≡ lowest-found role-count (empty-role (drawn-from roles (now (sets .entry)))) ⌝ }
 {
     let mut rest = ordinary_roles(roles);
     while rest != 0 {
@@ -75,7 +75,7 @@ fn has_set(among: u64, sets: &[u64], s: PrivilegeSet) -> bool
 
 // The lowest ordinary role that has a twin: its twin then is a higher role.
 pub fn twin_role(roles: u64, sets: &[u64]) -> Found
-    ensures { λ r. ⌜ read-found r ≡ first role-count (twin-role (drawn-from roles (now (sets .entry)))) ⌝ }
+    ensures { λ r. ⌜ read-found r ≡ lowest-found role-count (twin-role (drawn-from roles (now (sets .entry)))) ⌝ }
 {
     let mut rest = ordinary_roles(roles);
     while rest != 0 {
@@ -106,7 +106,7 @@ pub fn holds_pair(conflicts: &[u64], s: PrivilegeSet) -> bool
 
 // The lowest ordinary role that holds both privileges of some declared conflict.
 pub fn pair_role<'a>(roles: u64, sets: &'a [u64], conflicts: &'a [u64]) -> Found
-    ensures { λ r. ⌜ read-found r ≡ first role-count (pair-role (graph-of roles (now (sets .entry)) (now (conflicts .entry)))) ⌝ }
+    ensures { λ r. ⌜ read-found r ≡ lowest-found role-count (pair-role (graph-of roles (now (sets .entry)) (now (conflicts .entry)))) ⌝ }
 {
     let mut found = Found::Nothing;
     let mut rest = ordinary_roles(roles);
@@ -136,7 +136,7 @@ pub fn holds_both(a: Privilege, b: Privilege, s: PrivilegeSet) -> bool
 
 // The lowest ordinary role that holds both privileges of the pair offered.
 pub(crate) fn offered_role(roles: u64, sets: &[u64], a: Privilege, b: Privilege) -> Found
-    ensures { λ r. ⌜ read-found r ≡ first role-count (offered-role (drawn-from roles (now (sets .entry))) (a .0) (b .0)) ⌝ }
+    ensures { λ r. ⌜ read-found r ≡ lowest-found role-count (offered-role (drawn-from roles (now (sets .entry))) (a .0) (b .0)) ⌝ }
 {
     let mut rest = ordinary_roles(roles);
     while rest != 0 {
@@ -152,14 +152,14 @@ pub(crate) fn offered_role(roles: u64, sets: &[u64], a: Privilege, b: Privilege)
 
 // The lowest end role of a set.
 pub(crate) fn end_in(s: u64) -> Found
-    ensures { λ r. ⌜ read-found r ≡ first role-count (λ n. is-end n && member n s) ⌝ }
+    ensures { λ r. ⌜ read-found r ≡ lowest-found role-count (λ n. is-end n && member n s) ⌝ }
 {
     lowest_in(sets::intersection(END_ROLES, s))
 }
 
 // The lowest role of a set that is absent.
 pub(crate) fn absent_in(roles: u64, s: u64) -> Found
-    ensures { λ r. ⌜ read-found r ≡ first role-count (λ n. member n s && not (present (drawn-from roles []) n)) ⌝ }
+    ensures { λ r. ⌜ read-found r ≡ lowest-found role-count (λ n. member n s && not (present (drawn-from roles []) n)) ⌝ }
 {
     lowest_in(sets::difference(s, sets::union(END_ROLES, roles)))
 }
@@ -192,7 +192,7 @@ fn circle_at(roles: u64, sets: &[u64], seniors: u64, j: usize) -> bool
 
 // The lowest junior that some senior is or lies below.
 pub(crate) fn circle_in(roles: u64, sets: &[u64], juniors: u64, seniors: u64) -> Found
-    ensures { λ r. ⌜ read-found r ≡ first role-count (λ j. member j juniors && any role-count (λ s. member s seniors && at-or-below (drawn-from roles (now (sets .entry))) s j)) ⌝ }
+    ensures { λ r. ⌜ read-found r ≡ lowest-found role-count (λ j. member j juniors && any role-count (λ s. member s seniors && at-or-below (drawn-from roles (now (sets .entry))) s j)) ⌝ }
 {
     let mut rest = juniors;
     while rest != 0 {

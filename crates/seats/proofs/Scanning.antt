@@ -9,8 +9,8 @@ use lib.Dec.{T}
 use Rattle.sets.specs.Counting.{any}
 use Rattle.sets.proofs.Tests.{fails}
 use Rattle.sets.proofs.Counting.{any-some, lowest-is}
-use Rattle.graph.specs.Searching.{nothing, found, first}
-use Rattle.graph.proofs.Searches.{first-is, first-none}
+use Rattle.graph.specs.Searching.{nothing, found, lowest-found}
+use Rattle.graph.proofs.Searches.{found-is, found-none}
 
 -- No number below i passes.
 pub record Scanned (f : ℕ → Bool) (n i : ℕ) : Type 0 where
@@ -32,12 +32,12 @@ scanned-next {f} {n} {i} s l e = record {
 }
 
 -- The first that passes is the lowest.
-pub scanned-hit : {f : ℕ → Bool} {n i : ℕ} → Scanned f n i → i < n → f i ≡ true → found i ≡ first n f
+pub scanned-hit : {f : ℕ → Bool} {n i : ℕ} → Scanned f n i → i < n → f i ≡ true → found i ≡ lowest-found n f
 scanned-hit {f} {n} {i} s l e =
     let t = subst T (sym e) tt in
-    first-is n f l t (sym (lowest-is n f i l t (λ j k t. subst T (s .none j k) t)))
+    found-is n f l t (sym (lowest-is n f i l t (λ j k t. subst T (s .none j k) t)))
 
 -- Where none passed, nothing is found.
-pub scanned-miss : {f : ℕ → Bool} {n i : ℕ} → Scanned f n i → n ≤ i → nothing ≡ first n f
+pub scanned-miss : {f : ℕ → Bool} {n i : ℕ} → Scanned f n i → n ≤ i → nothing ≡ lowest-found n f
 scanned-miss {f} {n} {i} s l =
-    first-none n f (fails (any n f) (λ t. let (j, k, x) = any-some n f t in subst T (s .none j (omega arith)) x))
+    found-none n f (fails (any n f) (λ t. let (j, k, x) = any-some n f t in subst T (s .none j (omega arith)) x))

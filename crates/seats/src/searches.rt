@@ -6,7 +6,7 @@ ghost use Rattle.sets.specs.Sets.{member, union, when, gather};
 ghost use Rattle.graph.specs.Tables.{at, put};
 ghost use Rattle.graph.specs.Graph.{role-count};
 ghost use Rattle.graph.specs.Conflicts.{holds-pair};
-ghost use Rattle.graph.specs.Searching.{first};
+ghost use Rattle.graph.specs.Searching.{lowest-found};
 ghost use Rattle.graph.specs.Reading.{sets-in, read-found};
 ghost use Rattle.seats.specs.Seats.{seat-count, pair-seat, offered-seat};
 ghost use Rattle.seats.specs.Reading.{state-of};
@@ -21,7 +21,7 @@ use graph::table::union_at;
 
 // The lowest seat that has the role.
 pub(crate) fn seat_with_role(seats: &[u64], role: Role) -> Found
-    ensures { λ v. ⌜ read-found v ≡ first seat-count (λ i. member (role .0) (at (now (seats .entry)) i)) ⌝ }
+    ensures { λ v. ⌜ read-found v ≡ lowest-found seat-count (λ i. member (role .0) (at (now (seats .entry)) i)) ⌝ }
 {
     let r = role.0 as usize;
     for i in 0..64u8 {
@@ -40,7 +40,7 @@ fn pair_seat_with<'a>(
     a: usize,
     added: u64,
 ) -> Found
-    ensures { λ v. ⌜ read-found v ≡ first seat-count (λ i. holds-pair (sets-in (now (conflicts .entry))) (gather role-count (λ r. member r (union (at (now (seats .entry)) i) (when (eqb i a) added))) (at (sets-in (now (sets .entry)))))) ⌝ }
+    ensures { λ v. ⌜ read-found v ≡ lowest-found seat-count (λ i. holds-pair (sets-in (now (conflicts .entry))) (gather role-count (λ r. member r (union (at (now (seats .entry)) i) (when (eqb i a) added))) (at (sets-in (now (sets .entry)))))) ⌝ }
 {
     for i in 0..64u8 {
         let n = i as usize;
@@ -54,7 +54,7 @@ fn pair_seat_with<'a>(
 
 // The lowest seat that holds a declared pair.
 pub(crate) fn pair_seat<'a>(sets: &'a [u64], conflicts: &'a [u64], seats: &'a [u64]) -> Found
-    ensures { λ v. ⌜ read-found v ≡ first seat-count (pair-seat (state-of 0 (now (sets .entry)) (now (conflicts .entry)) (now (seats .entry)))) ⌝ }
+    ensures { λ v. ⌜ read-found v ≡ lowest-found seat-count (pair-seat (state-of 0 (now (sets .entry)) (now (conflicts .entry)) (now (seats .entry)))) ⌝ }
 {
     pair_seat_with(sets, conflicts, seats, 0, 0)
 }
@@ -67,7 +67,7 @@ pub(crate) fn pair_seat_after<'a>(
     a: Seat,
     b: Role,
 ) -> Found
-    ensures { λ v. ⌜ read-found v ≡ first seat-count (pair-seat (state-of 0 (now (sets .entry)) (now (conflicts .entry)) (put (now (seats .entry)) (a .0) (b .0)))) ⌝ }
+    ensures { λ v. ⌜ read-found v ≡ lowest-found seat-count (pair-seat (state-of 0 (now (sets .entry)) (now (conflicts .entry)) (put (now (seats .entry)) (a .0) (b .0)))) ⌝ }
 {
     let i = a.0 as usize;
     let known = i < seats.len();
@@ -82,7 +82,7 @@ pub(crate) fn offered_seat<'a>(
     a: Privilege,
     b: Privilege,
 ) -> Found
-    ensures { λ v. ⌜ read-found v ≡ first seat-count (offered-seat (state-of 0 (now (sets .entry)) [] (now (seats .entry))) (a .0) (b .0)) ⌝ }
+    ensures { λ v. ⌜ read-found v ≡ lowest-found seat-count (offered-seat (state-of 0 (now (sets .entry)) [] (now (seats .entry))) (a .0) (b .0)) ⌝ }
 {
     for i in 0..64u8 {
         let own = roles_at(seats, i as usize);

@@ -10,8 +10,8 @@ use Rattle.graph.specs.Tables.{at}
 use Rattle.graph.specs.Graph.{effective}
 use Rattle.graph.specs.Conflicts.{holds-pair}
 use Rattle.graph.specs.Reading.{sets-in}
-use Rattle.graph.specs.Searching.{first}
-use Rattle.graph.proofs.Searches.{first-cong}
+use Rattle.graph.specs.Searching.{lowest-found}
+use Rattle.graph.proofs.Searches.{found-cong}
 use Rattle.seats.specs.Seats.{seat-count, assigned, held, pair-seat}
 use Rattle.seats.proofs.Requests.{empty-union, joint, joint-put}
 use Rattle.seats.proofs.searches.pair_seat_after.Statement.{statement}
@@ -28,9 +28,9 @@ unfolding pair-seat held assigned effective
 returns c =
     let g = c .before .before .before .before .before .before .before .before .args in
     c .pair-seat-with .ensures
-    ∙ ap (λ (added : ℕ). first seat-count (λ i. holds-pair (sets-in (g .conflicts .now)) (joint (sets-in (g .sets .now)) (union (at (g .seats .now) i) (when (eqb i (g .a .0)) added)))))
+    ∙ ap (λ (added : ℕ). lowest-found seat-count (λ i. holds-pair (sets-in (g .conflicts .now)) (joint (sets-in (g .sets .now)) (union (at (g .seats .now) i) (when (eqb i (g .a .0)) added)))))
     (c .before .when .ensures ∙ ap (when (ltb (g .a .0) (length (g .seats .now)))) (c .before .before .insert .ensures ∙ empty-union _))
-    ∙ first-cong seat-count _ _ (λ i h. ap (holds-pair (sets-in (g .conflicts .now))) (joint-put (sets-in (g .sets .now)) (g .seats .now) (g .a .0) (g .b .0) i))
+    ∙ found-cong seat-count _ _ (λ i h. ap (holds-pair (sets-in (g .conflicts .now))) (joint-put (sets-in (g .sets .now)) (g .seats .now) (g .a .0) (g .b .0) i))
 
 pub pair-seat-after-spec : {M : Type 1} → statement M
 pair-seat-after-spec =
