@@ -27,9 +27,6 @@ sets-length c = written-length (c .put-table .ensures) ∙ length-set (entered c
 conflicts-length : (c : tie.After-put-table2) → length (c .put-table2 .last .0) ≡ length (entered (second c) .args .block .now)
 conflicts-length c = written-length (c .put-table2 .ensures) ∙ sets-length (second c)
 
-slice-write-block : tie.Need-slice-write-block
-slice-write-block c = search needs
-
 put-table-requires : tie.Need-put-table-requires
 put-table-requires c κs = simp length-set (omega (arith, c .before .before .before .before .pre))
 
@@ -53,7 +50,7 @@ pub put-state-spec : {M : Type 1} → statement M
 put-state-spec =
     tie.close
     (tie.spec
-    slice-write-block
+    (λ c. search needs)
     put-table-requires
     put-table-requires-2
     put-table-requires-3

@@ -19,9 +19,6 @@ returns : tie.Need-returns
 unfolding call-block of-state
 returns c = simp (lt-leb _ _ (c .if1 .taken))
 
-enum-known-decoded : tie.Need-enum-known-decoded
-enum-known-decoded c = search needs
-
 enum-told : tie.Need-enum-told
 enum-told c = search needs
 
@@ -34,21 +31,6 @@ returns-2 c =
     rw (le-leb _ _ (c .before .before .before .before .if1 .left))
     (gives W (refused 1 0) (state-in W) (c .refusal-code .ensures .0) (sym (holds-own W (omega (arith, c .before .before .before .before .if1 .left)))) (ap (perform-decoded (state-in W)) d))
 
-enum-known-call : tie.Need-enum-known-call
-enum-known-call c = search needs
-
-take-change-requires : tie.Need-take-change-requires
-take-change-requires c κs = search needs
-
-enum-known-call-2 : tie.Need-enum-known-call-2
-enum-known-call-2 c = search needs
-
-take-request-requires : tie.Need-take-request-requires
-take-request-requires c κs = search needs
-
-same-length : tie.Need-same-length
-same-length c = search needs
-
 returns-3 : tie.Need-returns-3
 unfolding call-block of-state step perform-decoded read-decoded read-call
 returns-3 c =
@@ -58,9 +40,6 @@ returns-3 c =
     let W = m .before .before .before .before .args .block .now in
     let e = sym (m .decode .ensures) ∙ ap read-decoded (d .decoded .given .1) ∙ ap (λ (q : Call). well-formed (read-call q)) (k .call .given .1) in
     rw (le-leb _ _ (m .before .if1 .left)) (c .before .before .take-change .ensures ∙ ap (λ (q : Decoded). given W (perform-decoded (state-in W) q)) (sym e))
-
-same-length-2 : tie.Need-same-length-2
-same-length-2 c = search needs
 
 returns-4 : tie.Need-returns-4
 unfolding call-block of-state step perform-decoded read-decoded read-call
@@ -78,15 +57,15 @@ keeper-call-spec =
     (tie.spec
     returns
     (λ c κs. tt)
-    enum-known-decoded
+    (λ c. search needs)
     enum-told
     (λ c κs. tt)
     returns-2
-    enum-known-call
-    take-change-requires
-    enum-known-call-2
-    take-request-requires
-    same-length
+    (λ c. search needs)
+    (λ c κs. search needs)
+    (λ c. search needs)
+    (λ c κs. search needs)
+    (λ c. search needs)
     returns-3
-    same-length-2
+    (λ c. search needs)
     returns-4)

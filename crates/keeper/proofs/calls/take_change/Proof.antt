@@ -15,14 +15,8 @@ use Rattle.keeper.proofs.CodedAnswer.{gives}
 use Rattle.keeper.proofs.calls.take_change.Statement.{statement}
 use Rattle.keeper.proofs.calls.take_change.Tie as tie
 
-changed-requires : tie.Need-changed-requires
-changed-requires c κs = search needs
-
 enum-told : tie.Need-enum-told
 enum-told c = search needs
-
-slice-write-block : tie.Need-slice-write-block
-slice-write-block c = search needs
 
 put-table-requires : tie.Need-put-table-requires
 put-table-requires c κs = simp length-set (omega (arith, c .before .before .before .before .before .before .before .before .pre))
@@ -44,9 +38,6 @@ returns c =
     gives W (read-answer (r .answer)) h (c .code .ensures) (graph-put h W (s .pre) refl refl (c .before .before .before .put-table .ensures))
     (accepted-taken _ _ _ (state-in W) (d .changed .ensures) (c .before .before .before .before .before .before .before .enum-told .given .1))
 
-same-length-2 : tie.Need-same-length-2
-same-length-2 c = search needs
-
 returns-2 : tie.Need-returns-2
 unfolding perform reply
 returns-2 c =
@@ -61,13 +52,13 @@ pub take-change-spec : {M : Type 1} → statement M
 take-change-spec =
     tie.close
     (tie.spec
-    changed-requires
+    (λ c κs. search needs)
     enum-told
-    slice-write-block
+    (λ c. search needs)
     put-table-requires
     (λ c κs. tt)
     (λ c κs. tt)
     same-length
     returns
-    same-length-2
+    (λ c. search needs)
     returns-2)

@@ -11,38 +11,8 @@ use Rattle.keeper.proofs.CodedAnswer.{gives}
 use Rattle.keeper.proofs.calls.take_request.Statement.{statement}
 use Rattle.keeper.proofs.calls.take_request.Tie as tie
 
-decided-requires : tie.Need-decided-requires
-decided-requires c κs = search needs
-
 enum-told : tie.Need-enum-told
 enum-told c = search needs
-
-enum-known-stored : tie.Need-enum-known-stored
-enum-known-stored c = search needs
-
-sub-conflicts : tie.Need-sub-conflicts
-sub-conflicts c = search needs
-
-part-conflicts-start : tie.Need-part-conflicts-start
-part-conflicts-start c = search needs
-
-part-conflicts-end : tie.Need-part-conflicts-end
-part-conflicts-end c = search needs
-
-enum-known-stored-2 : tie.Need-enum-known-stored-2
-enum-known-stored-2 c = search needs
-
-sub-seats : tie.Need-sub-seats
-sub-seats c = search needs
-
-part-seats-start : tie.Need-part-seats-start
-part-seats-start c = search needs
-
-part-seats-end : tie.Need-part-seats-end
-part-seats-end c = search needs
-
-same-length : tie.Need-same-length
-same-length c = search needs
 
 returns : tie.Need-returns
 unfolding stored
@@ -54,9 +24,6 @@ returns c =
     gives W a (state-in W) (c .code .ensures) (sym (holds-own W (let l = p .pre in omega arith)))
     (ap (λ (x : Stored). (a, stored (state-in W) x)) (sym (c .before .enum-told .given .1)) ∙ d .decided .ensures)
 
-same-length-2 : tie.Need-same-length-2
-same-length-2 c = search needs
-
 returns-2 : tie.Need-returns-2
 unfolding stored
 returns-2 c =
@@ -66,9 +33,6 @@ returns-2 c =
     let a = read-answer (d .decided .result .answer) in
     gives W a _ (c .code2 .ensures) (conflicts-put W _ (p .pre) (c .before .before .before .store .ensures))
     (ap (λ (x : Stored). (a, stored (state-in W) x)) (sym (c .before .before .before .before .before .before .stored .given .1)) ∙ d .decided .ensures)
-
-same-length-3 : tie.Need-same-length-3
-same-length-3 c = search needs
 
 returns-3 : tie.Need-returns-3
 unfolding stored
@@ -84,24 +48,24 @@ pub take-request-spec : {M : Type 1} → statement M
 take-request-spec =
     tie.close
     (tie.spec
-    decided-requires
+    (λ c κs. search needs)
     enum-told
     (λ c κs. tt)
-    enum-known-stored
-    sub-conflicts
-    part-conflicts-start
-    part-conflicts-end
+    (λ c. search needs)
+    (λ c. search needs)
+    (λ c. search needs)
+    (λ c. search needs)
     (λ c κs. tt)
     (λ c κs. tt)
-    enum-known-stored-2
-    sub-seats
-    part-seats-start
-    part-seats-end
+    (λ c. search needs)
+    (λ c. search needs)
+    (λ c. search needs)
+    (λ c. search needs)
     (λ c κs. tt)
     (λ c κs. tt)
-    same-length
+    (λ c. search needs)
     returns
-    same-length-2
+    (λ c. search needs)
     returns-2
-    same-length-3
+    (λ c. search needs)
     returns-3)

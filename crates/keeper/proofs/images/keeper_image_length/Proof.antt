@@ -12,21 +12,12 @@ use Rattle.keeper.proofs.SaveCode.{measured-le}
 use Rattle.keeper.proofs.images.keeper_image_length.Statement.{statement}
 use Rattle.keeper.proofs.images.keeper_image_length.Tie as tie
 
-enum-known-measured : tie.Need-enum-known-measured
-enum-known-measured c = search needs
-
 cast-result : tie.Need-cast-result
 unfolding read-measured
 cast-result c =
     let v = c .before .before .before in
     let l = measured-le (v .before .before .args .bytes .now) (c .before .measured .given .0 .0) (sym (ap read-measured (c .before .measured .given .1)) ∙ v .image-length .ensures) in
     record { fits = omega arith }
-
-enum-known-measured-2 : tie.Need-enum-known-measured-2
-enum-known-measured-2 c = search needs
-
-add-result : tie.Need-add-result
-add-result c = search needs
 
 returns : tie.Need-returns
 unfolding image-length length-code read-measured
@@ -45,10 +36,10 @@ keeper-image-length-spec =
     tie.close
     (tie.spec
     (λ c κs. tt)
-    enum-known-measured
+    (λ c. search needs)
     cast-result
-    enum-known-measured-2
+    (λ c. search needs)
     (λ c κs. tt)
-    add-result
+    (λ c. search needs)
     returns
     returns-2)

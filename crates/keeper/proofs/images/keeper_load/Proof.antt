@@ -22,12 +22,6 @@ returns : tie.Need-returns
 unfolding load-block of-state
 returns c = simp (lt-leb _ _ (c .if1 .taken))
 
-put-state-requires : tie.Need-put-state-requires
-put-state-requires c κs = search needs
-
-same-length : tie.Need-same-length
-same-length c = search needs
-
 returns-2 : tie.Need-returns-2
 unfolding load-block of-state code-of answer-number answer-place read-verdict
 returns-2 c =
@@ -61,9 +55,9 @@ keeper-load-spec =
     returns
     (λ c κs. tt)
     (λ c. search needs)
-    put-state-requires
+    (λ c κs. search needs)
     (λ c. search needs)
     (λ c κs. tt)
-    same-length
+    (λ c. search needs)
     returns-2
     returns-3)

@@ -17,39 +17,6 @@ returns : tie.Need-returns
 unfolding save-block of-state
 returns c = simp (lt-leb _ _ (c .if1 .taken))
 
-sub-sets : tie.Need-sub-sets
-sub-sets c = search needs
-
-part-sets-start : tie.Need-part-sets-start
-part-sets-start c = search needs
-
-part-sets-end : tie.Need-part-sets-end
-part-sets-end c = search needs
-
-sub-conflicts : tie.Need-sub-conflicts
-sub-conflicts c = search needs
-
-part-conflicts-start : tie.Need-part-conflicts-start
-part-conflicts-start c = search needs
-
-part-conflicts-end : tie.Need-part-conflicts-end
-part-conflicts-end c = search needs
-
-sub-seats : tie.Need-sub-seats
-sub-seats c = search needs
-
-part-seats-start : tie.Need-part-seats-start
-part-seats-start c = search needs
-
-part-seats-end : tie.Need-part-seats-end
-part-seats-end c = search needs
-
-shared-slice-read-save : tie.Need-shared-slice-read-save
-shared-slice-read-save c = search needs
-
-enum-known-filled : tie.Need-enum-known-filled
-enum-known-filled c = search needs
-
 cast-result : tie.Need-cast-result
 unfolding read-filled
 cast-result c =
@@ -57,15 +24,6 @@ cast-result c =
     let s = v .before .before .before .before .before .before .before .before .before in
     let l = written-le (state-in (s .args .block .now)) (s .args .buffer .now) (c .before .filled .given .0 .0) (ap read-filled (c .before .filled .given .1)) (v .save .ensures) in
     record { fits = omega arith }
-
-enum-known-filled-2 : tie.Need-enum-known-filled-2
-enum-known-filled-2 c = search needs
-
-add-result : tie.Need-add-result
-add-result c = search needs
-
-same-length : tie.Need-same-length
-same-length c = search needs
 
 returns-2 : tie.Need-returns-2
 unfolding save-block of-state save-code read-filled
@@ -75,9 +33,6 @@ returns-2 c =
     let s = b .before .before .before in
     rw (le-leb _ _ (b .if1 .left))
     (saves (state-in (s .args .block .now)) (s .args .buffer .now) (sym (ap (λ (k : Filled). save-code (read-filled k)) (c .before .filled .given .1))) (v .save .ensures))
-
-same-length-2 : tie.Need-same-length-2
-same-length-2 c = search needs
 
 returns-3 : tie.Need-returns-3
 unfolding save-block of-state save-code read-filled
@@ -93,23 +48,23 @@ keeper-save-spec =
     tie.close
     (tie.spec
     returns
-    sub-sets
-    part-sets-start
-    part-sets-end
-    sub-conflicts
-    part-conflicts-start
-    part-conflicts-end
-    sub-seats
-    part-seats-start
-    part-seats-end
-    shared-slice-read-save
+    (λ c. search needs)
+    (λ c. search needs)
+    (λ c. search needs)
+    (λ c. search needs)
+    (λ c. search needs)
+    (λ c. search needs)
+    (λ c. search needs)
+    (λ c. search needs)
+    (λ c. search needs)
+    (λ c. search needs)
     (λ c κs. tt)
-    enum-known-filled
+    (λ c. search needs)
     cast-result
-    enum-known-filled-2
+    (λ c. search needs)
     (λ c κs. tt)
-    add-result
-    same-length
+    (λ c. search needs)
+    (λ c. search needs)
     returns-2
-    same-length-2
+    (λ c. search needs)
     returns-3)

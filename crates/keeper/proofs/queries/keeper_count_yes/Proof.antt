@@ -11,24 +11,6 @@ returns : tie.Need-returns
 unfolding count-yes-block of-state
 returns c = simp (lt-leb _ _ (c .if1 .taken))
 
-sub-sets : tie.Need-sub-sets
-sub-sets c = search needs
-
-part-sets-start : tie.Need-part-sets-start
-part-sets-start c = search needs
-
-part-sets-end : tie.Need-part-sets-end
-part-sets-end c = search needs
-
-sub-seats : tie.Need-sub-seats
-sub-seats c = search needs
-
-part-seats-start : tie.Need-part-seats-start
-part-seats-start c = search needs
-
-part-seats-end : tie.Need-part-seats-end
-part-seats-end c = search needs
-
 returns-2 : tie.Need-returns-2
 unfolding count-yes-block of-state
 returns-2 c = rw (le-leb _ _ (c .before .before .before .if1 .left)) (c .count-yes .ensures _ _)
@@ -38,11 +20,11 @@ keeper-count-yes-spec =
     tie.close
     (tie.spec
     returns
-    sub-sets
-    part-sets-start
-    part-sets-end
-    sub-seats
-    part-seats-start
-    part-seats-end
+    (λ c. search needs)
+    (λ c. search needs)
+    (λ c. search needs)
+    (λ c. search needs)
+    (λ c. search needs)
+    (λ c. search needs)
     (λ c κs. tt)
     returns-2)

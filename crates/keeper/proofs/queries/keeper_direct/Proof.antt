@@ -14,18 +14,6 @@ returns : tie.Need-returns
 unfolding direct-block of-state
 returns c = simp (lt-leb _ _ (c .if1 .taken))
 
-sub-sets : tie.Need-sub-sets
-sub-sets c = search needs
-
-part-sets-start : tie.Need-part-sets-start
-part-sets-start c = search needs
-
-part-sets-end : tie.Need-part-sets-end
-part-sets-end c = search needs
-
-shared-slice-read-direct-of : tie.Need-shared-slice-read-direct-of
-shared-slice-read-direct-of c = search needs
-
 returns-2 : tie.Need-returns-2
 unfolding direct-block of-state direct edge below ordinary present effective
 returns-2 c = rw (le-leb _ _ (c .before .before .before .before .if1 .left)) (c .word-of .ensures ∙ c .before .direct-of .ensures)
@@ -35,10 +23,10 @@ keeper-direct-spec =
     tie.close
     (tie.spec
     returns
-    sub-sets
-    part-sets-start
-    part-sets-end
-    shared-slice-read-direct-of
+    (λ c. search needs)
+    (λ c. search needs)
+    (λ c. search needs)
+    (λ c. search needs)
     (λ c κs. tt)
     (λ c κs. tt)
     returns-2)

@@ -11,15 +11,6 @@ returns : tie.Need-returns
 unfolding declared-block of-state
 returns c = simp (lt-leb _ _ (c .if1 .taken))
 
-sub-conflicts : tie.Need-sub-conflicts
-sub-conflicts c = search needs
-
-part-conflicts-start : tie.Need-part-conflicts-start
-part-conflicts-start c = search needs
-
-part-conflicts-end : tie.Need-part-conflicts-end
-part-conflicts-end c = search needs
-
 returns-2 : tie.Need-returns-2
 unfolding declared-block of-state
 returns-2 c = rw (le-leb _ _ (c .before .before .if1 .left)) (c .is-declared .ensures)
@@ -29,8 +20,8 @@ keeper-is-declared-spec =
     tie.close
     (tie.spec
     returns
-    sub-conflicts
-    part-conflicts-start
-    part-conflicts-end
+    (λ c. search needs)
+    (λ c. search needs)
+    (λ c. search needs)
     (λ c κs. tt)
     returns-2)

@@ -13,18 +13,6 @@ returns : tie.Need-returns
 unfolding juniors-block of-state
 returns c = simp (lt-leb _ _ (c .if1 .taken))
 
-sub-sets : tie.Need-sub-sets
-sub-sets c = search needs
-
-part-sets-start : tie.Need-part-sets-start
-part-sets-start c = search needs
-
-part-sets-end : tie.Need-part-sets-end
-part-sets-end c = search needs
-
-shared-slice-read-juniors-of : tie.Need-shared-slice-read-juniors-of
-shared-slice-read-juniors-of c = search needs
-
 returns-2 : tie.Need-returns-2
 unfolding juniors-block of-state juniors edge below ordinary present effective
 returns-2 c = rw (le-leb _ _ (c .before .before .before .if1 .left)) (c .juniors-of .ensures)
@@ -34,9 +22,9 @@ keeper-juniors-spec =
     tie.close
     (tie.spec
     returns
-    sub-sets
-    part-sets-start
-    part-sets-end
-    shared-slice-read-juniors-of
+    (λ c. search needs)
+    (λ c. search needs)
+    (λ c. search needs)
+    (λ c. search needs)
     (λ c κs. tt)
     returns-2)
