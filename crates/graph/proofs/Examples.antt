@@ -179,10 +179,20 @@ held-already : judged A (grant 8 1) ≡ refused 22 8
 unfolding computes written-out
 held-already = refl
 
--- 23: effective but not direct.
-not-direct : judged A (withdraw 8 1) ≡ refused 23 8
+-- 23: not held at all.
+not-held : judged A (withdraw 5 12) ≡ refused 23 5
+unfolding computes written-out
+not-held = refl
+
+-- 31: effective but not direct.
+not-direct : judged A (withdraw 5 1) ≡ refused 31 5
 unfolding computes written-out
 not-direct = refl
+
+-- Direct: nothing refuses.
+held-directly : judged A (withdraw 8 9) ≡ passed
+unfolding computes written-out
+held-directly = refl
 
 -- 23: below, with a third role between.
 not-drawn : judged A (remove-edge 2 8) ≡ refused 23 2

@@ -1,23 +1,22 @@
--- The laws of checks: what a verdict says of its list, that the lowest number wins, and what each check that passes says.
+-- The laws of checks: what a verdict says of its list, that the first in the order of refusals answers, and what each check that passes says.
 -- Assumes nothing.
 use mathlib.Core.Path.{_≡_, refl, sym, ap, _∙_, subst}
-use mathlib.Core.Bool.{Bool, true, not, _&&_}
+use mathlib.Core.Bool.{Bool, true, false, cond, not, _&&_, _||_}
 use mathlib.Core.Logic.{_≢_, inl, inr}
 use mathlib.Core.List.{List, [], _∷_, _++_, List·Memᴰ, List·Memᴰ·not-nil, List·Memᴰ·cases-cons}
 use Prim.Native.Nat.{ℕ, _<_, _≤_, _^_}
-use native.Mathlib.Nat.{le-trans}
 use native.Mathlib.Decide.{ℕ-discrete}
 use native.Mathlib.Omega.{arith}
-use lib.Dec.{T, T-not, not-T, leb, leb→le, nleb→lt, eqb}
+use lib.Dec.{T, T-not, not-T, leb, nleb→lt, eqb}
 use Rattle.sets.specs.Counting.{any}
 use Rattle.sets.specs.Sets.{member}
-use Rattle.sets.proofs.Tests.{both, join, passes, fails, decide, so, equal-test, test-equal}
+use Rattle.sets.proofs.Tests.{both, or-right, join, passes, fails, decide, so, equal-test, test-equal}
 use Rattle.sets.proofs.Counting.{any-some, some-any}
 use Rattle.sets.proofs.Laws.{member-lt}
 use Rattle.graph.specs.Graph.{Graph, role-count, is-end, ordinary, present, effective}
 use Rattle.graph.specs.Conflicts.{holds-pair}
 use Rattle.graph.specs.Editing.{Change, add-by-place, add-by-privileges, remove-role, grant, withdraw, add-edge, remove-edge}
-use Rattle.graph.specs.Refusing.{Check, passed, refused, verdict, input-checks, at-or-below, state-checks, empty-role, twin-role, pair-role, still-below, closed-checks, change-checks, Passes}
+use Rattle.graph.specs.Refusing.{Check, passed, refused, verdict, refusal-order, listed, from, no-earlier, input-checks, at-or-below, state-checks, empty-role, twin-role, pair-role, still-below, closed-checks, change-checks, Passes}
 use Rattle.graph.specs.Invariants.{Formed, Distinct, PairFree}
 use Rattle.graph.proofs.Order.{is-end-lt, not-end, ordinary-lt}
 
@@ -102,62 +101,89 @@ refused-holds (c ∷ l) n p e =
       found-place = r .found-place;
     }
 
--- ---- the lowest number wins
--- The numbers, from n on, never fall.
-unfoldable pub ascending-from : ℕ → List Check → Bool
-ascending-from n [] = true
-ascending-from n (c ∷ l) = leb n (c .number) && ascending-from (c .number) l
+-- ---- the order of refusals
+-- The checks stand in the order o: each has a number of it, no earlier than that of the one before.
+unfoldable pub in-order : List ℕ → List Check → Bool
+in-order o [] = true
+in-order o (c ∷ l) = listed o (c .number) && in-order (from o (c .number)) l
 
--- The numbers of a list of checks never fall.
-unfoldable pub ascending-numbers : List Check → Bool
-ascending-numbers l = ascending-from 0 l
+-- An order from one of its numbers on has that number.
+own-place : (o : List ℕ) (n : ℕ) → T (listed o n) → T (listed (from o n) n)
+unfolding listed from
+own-place [] n t = t
+own-place (m ∷ o) n t = go (eqb m n) refl (own-place o n) t
+  where
+    go : (b : Bool) → eqb m n ≡ b → (T (listed o n) → T (listed (from o n) n)) → T (b || listed o n) → T (listed (cond b (m ∷ o) (from o n)) n)
+    go true e rest u = subst (λ (b : Bool). T (b || listed o n)) (sym e) tt
+    go false e rest u = rest u
 
-no-lower : (k : ℕ) (l : List Check) → T (ascending-from k l) → (c : Check) → List·Memᴰ c l → k ≤ c .number
-unfolding ascending-from
-no-lower k [] a c m = absurd (List·Memᴰ·not-nil m)
-no-lower k (d ∷ l) a c m =
-    let (x, y) = both (leb k (d .number)) (ascending-from (d .number) l) a in
+-- What an order has from a number on, it has.
+pub from-listed : (o : List ℕ) (n m : ℕ) → T (listed (from o n) m) → T (listed o m)
+unfolding listed from
+from-listed [] n m t = t
+from-listed (k ∷ o) n m t = go (eqb k n) (from-listed o n m) t
+  where
+    go : (b : Bool) → (T (listed (from o n) m) → T (listed o m)) → T (listed (cond b (k ∷ o) (from o n)) m) → T (eqb k m || listed o m)
+    go true rest u = u
+    go false rest u = or-right (eqb k m) (listed o m) (rest u)
+
+-- What stands from n on in the order from d on, stands from n on in the whole order.
+from-from : (o : List ℕ) (d n m : ℕ) → T (listed (from (from o d) n) m) → T (listed (from o n) m)
+unfolding listed from
+from-from [] d n m t = t
+from-from (k ∷ o) d n m t = go (eqb k d) (eqb k n) refl (from-from o d n m) t
+  where
+    go : (x y : Bool) → eqb k n ≡ y → (T (listed (from (from o d) n) m) → T (listed (from o n) m))
+        → T (listed (from (cond x (k ∷ o) (from o d)) n) m) → T (listed (cond y (k ∷ o) (from o n)) m)
+    go true y e rest u = subst (λ (b : Bool). T (listed (cond b (k ∷ o) (from o n)) m)) e u
+    go false true e rest u = or-right (eqb k m) (listed o m) (from-listed o d m (from-listed (from o d) n m u))
+    go false false e rest u = rest u
+
+-- Each check of a list in an order has a number of it.
+check-listed : (o : List ℕ) (l : List Check) → T (in-order o l) → (c : Check) → List·Memᴰ c l → T (listed o (c .number))
+unfolding in-order
+check-listed o [] a c m = absurd (List·Memᴰ·not-nil m)
+check-listed o (d ∷ l) a c m =
+    let (x, y) = both (listed o (d .number)) (in-order (from o (d .number)) l) a in
     elim (List·Memᴰ·cases-cons m) [
-      | inl e ↦ subst (λ (i : Check). k ≤ i .number) (sym e) (leb→le k (d .number) x)
-      | inr z ↦ le-trans (leb→le k (d .number) x) (no-lower (d .number) l y c z)
+      | inl e ↦ subst (λ (i : Check). T (listed o (i .number))) (sym e) x
+      | inr z ↦ from-listed o (d .number) (c .number) (check-listed (from o (d .number)) l y c z)
     ]
 
-lowest-from : (k : ℕ) (l : List Check) (n p : ℕ) → T (ascending-from k l) → verdict l ≡ refused n p → (c : Check) → List·Memᴰ c l → T (c .holds) → n ≤ c .number
-unfolding verdict ascending-from
-lowest-from k [] n p a e c m t = absurd (List·Memᴰ·not-nil m)
-lowest-from k (d ∷ l) n p a e c m t =
-    let (x, y) = both (leb k (d .number)) (ascending-from (d .number) l) a in
+-- Where the checks stand in an order, no check that holds has an earlier number in it than the verdict.
+pub first-in-order : (o : List ℕ) (l : List Check) (n p : ℕ) → T (in-order o l) → verdict l ≡ refused n p → (c : Check) → List·Memᴰ c l → T (c .holds) → T (no-earlier o n (c .number))
+unfolding verdict in-order no-earlier
+first-in-order o [] n p a e c m t = absurd (List·Memᴰ·not-nil m)
+first-in-order o (d ∷ l) n p a e c m t =
+    let (x, y) = both (listed o (d .number)) (in-order (from o (d .number)) l) a in
     elim (decide (d .holds)) [
-      | inl u ↦ first y (sym (verdict-holds d l u) ∙ e)
+      | inl u ↦ first x y (sym (verdict-holds d l u) ∙ e)
       | inr f ↦
           elim (List·Memᴰ·cases-cons m) [
             | inl q ↦ absurd (f (subst (λ (i : Check). T (i .holds)) q t))
-            | inr z ↦ lowest-from (d .number) l n p y (sym (verdict-next d l f) ∙ e) c z t
+            | inr z ↦ from-from o (d .number) n (c .number) (first-in-order (from o (d .number)) l n p y (sym (verdict-next d l f) ∙ e) c z t)
           ]
     ]
   where
-    first : T (ascending-from (d .number) l) → refused (d .number) (d .place) ≡ refused n p → n ≤ c .number
-    first y q =
+    first : T (listed o (d .number)) → T (in-order (from o (d .number)) l) → refused (d .number) (d .place) ≡ refused n p → T (listed (from o n) (c .number))
+    first x y q =
         let e : d .number ≡ n = cc in
-        elim (List·Memᴰ·cases-cons m) [
-          | inl z ↦ subst (λ (i : Check). n ≤ i .number) (sym z) (omega arith)
-          | inr z ↦ (let h = no-lower (d .number) l y c z in omega arith)
-        ]
+        subst (λ (i : ℕ). T (listed (from o i) (c .number))) e
+        (elim (List·Memᴰ·cases-cons m) [
+          | inl z ↦ subst (λ (i : Check). T (listed (from o (d .number)) (i .number))) (sym z) (own-place o (d .number) x)
+          | inr z ↦ check-listed (from o (d .number)) l y c z
+        ])
 
--- Where the numbers never fall, no check that holds has a lower number than the verdict.
-pub lowest-number : (l : List Check) (n p : ℕ) → ascending-numbers l ≡ true → verdict l ≡ refused n p → (c : Check) → List·Memᴰ c l → T (c .holds) → n ≤ c .number
-unfolding ascending-numbers
-lowest-number l n p a e c m t = lowest-from 0 l n p (subst T (sym a) tt) e c m t
-
-pub checks-ascend : (g : Graph) (c : Change) (h : Graph) → ascending-numbers (change-checks g c h) ≡ true
-unfolding ascending-numbers ascending-from change-checks input-checks state-checks still-below closed-checks
-checks-ascend g (add-by-place a own juniors seniors) h = refl
-checks-ascend g (add-by-privileges a own) h = refl
-checks-ascend g (remove-role a b) h = refl
-checks-ascend g (grant a b) h = refl
-checks-ascend g (withdraw a b) h = refl
-checks-ascend g (add-edge a b) h = refl
-checks-ascend g (remove-edge a b) h = refl
+-- The checks of a change stand in the order of refusals.
+pub checks-in-order : (g : Graph) (c : Change) (h : Graph) → T (in-order refusal-order (change-checks g c h))
+unfolding in-order refusal-order listed from change-checks input-checks state-checks still-below closed-checks
+checks-in-order g (add-by-place a own juniors seniors) h = tt
+checks-in-order g (add-by-privileges a own) h = tt
+checks-in-order g (remove-role a b) h = tt
+checks-in-order g (grant a b) h = tt
+checks-in-order g (withdraw a b) h = tt
+checks-in-order g (add-edge a b) h = tt
+checks-in-order g (remove-edge a b) h = tt
 
 -- ---- what each check that passes says
 -- 2: a number is below the count.

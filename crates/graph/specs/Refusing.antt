@@ -1,5 +1,5 @@
--- Document 01, "Refusals that come from the input" and "Refusals that come from the state": for each call one list of checks in the order of their numbers, the first that holds refuses.
-use mathlib.Core.Bool.{Bool, cond, not, _&&_, _||_}
+-- Document 01, "Refusals that come from the input" and "Refusals that come from the state": for each call one list of checks in the order of refusals, the first that holds refuses.
+use mathlib.Core.Bool.{Bool, false, cond, not, _&&_, _||_}
 use mathlib.Core.Path.{_≡_}
 use mathlib.Core.Logic.{_⊎_}
 use mathlib.Core.List.{List, [], _∷_, _++_}
@@ -46,6 +46,26 @@ unfoldable pub First : List Check → ℕ → ℕ → Type 0
 First [] n p = ⊥
 First (c ∷ l) n p = (T (c .holds) × (c .number ≡ n) × (c .place ≡ p)) ⊎ ((T (c .holds) → ⊥) × First l n p)
 
+-- ---- the order of refusals
+
+-- Of the conditions that hold, the first in this list of numbers answers.
+unfoldable pub refusal-order : List ℕ
+refusal-order = 1 ∷ 2 ∷ 3 ∷ 4 ∷ 5 ∷ 20 ∷ 21 ∷ 22 ∷ 23 ∷ 31 ∷ 24 ∷ 25 ∷ 26 ∷ 27 ∷ 28 ∷ 29 ∷ 30 ∷ []
+
+-- An order has the number n.
+unfoldable pub listed : List ℕ → ℕ → Bool
+listed [] n = false
+listed (m ∷ o) n = eqb m n || listed o n
+
+-- An order from the number n on.
+unfoldable pub from : List ℕ → ℕ → List ℕ
+from [] n = []
+from (m ∷ o) n = cond (eqb m n) (m ∷ o) (from o n)
+
+-- The number m is n or stands behind it in the order.
+unfoldable pub no-earlier : List ℕ → ℕ → ℕ → Bool
+no-earlier o n m = listed (from o n) m
+
 -- ---- refusals of the input, 2 to 5
 
 -- 2: no role has this number.
@@ -88,7 +108,7 @@ input-checks (withdraw a b) = no-role-number a ∷ no-privilege-number b ∷ end
 input-checks (add-edge a b) = no-role-number a ∷ no-role-number b ∷ end-role a ∷ end-role b ∷ edge-to-itself a b ∷ []
 input-checks (remove-edge a b) = no-role-number a ∷ no-role-number b ∷ end-role a ∷ end-role b ∷ edge-to-itself a b ∷ []
 
--- ---- refusals of the state, 20 to 25
+-- ---- refusals of the state, 20 to 25, and 31
 
 -- 20: a role to be added is present.
 abbrev pub role-present : Graph → ℕ → Check
@@ -106,7 +126,7 @@ role-absent-in g s = refuse-lowest 21 role-count (λ r. member r s && not (prese
 unfoldable pub at-or-below : Graph → ℕ → ℕ → Bool
 at-or-below g r s = eqb r s || below g r s
 
--- Refusals 20 to 25 of each kind, by the graph at hand; 24 concerns seats and is not here.
+-- Refusals 20 to 25 and 31 of each kind, by the graph at hand; 24 concerns seats and is not here.
 unfoldable pub state-checks : Graph → Change → List Check
 state-checks g (add-by-place a own juniors seniors) =
     role-present g a
@@ -117,7 +137,11 @@ state-checks g (add-by-place a own juniors seniors) =
 state-checks g (add-by-privileges a own) = role-present g a ∷ []
 state-checks g (remove-role a b) = role-absent g a ∷ []
 state-checks g (grant a b) = role-absent g a ∷ refuse 22 (member b (effective g a)) a ∷ []
-state-checks g (withdraw a b) = role-absent g a ∷ refuse 23 (not (member b (direct g a))) a ∷ []
+state-checks g (withdraw a b) =
+    role-absent g a
+    ∷ refuse 23 (not (member b (effective g a))) a
+    ∷ refuse 31 (member b (effective g a) && not (member b (direct g a))) a
+    ∷ []
 state-checks g (add-edge a b) =
     role-absent g a ∷ role-absent g b ∷ refuse 22 (below g a b) a ∷ refuse 25 (below g b a) a ∷ []
 state-checks g (remove-edge a b) = role-absent g a ∷ role-absent g b ∷ refuse 23 (not (edge g a b)) a ∷ []

@@ -166,8 +166,11 @@ fn judge_withdraw(roles: u64, sets: &[u64], a: Role, b: Privilege) -> Verdict
     let Verdict::Passed = named else {
         return named;
     };
-    if !drawing::is_direct(roles, sets, a, b) {
+    if !privileges::member(b, drawing::effective_of(sets, a)) {
         return refuse(23, a.0);
+    }
+    if !drawing::is_direct(roles, sets, a, b) {
+        return refuse(31, a.0);
     }
     Verdict::Passed
 }

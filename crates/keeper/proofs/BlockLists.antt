@@ -25,7 +25,7 @@ use Rattle.seats.specs.Lists.{answers, end}
 use Rattle.seats.specs.ListTheorem.{Start, from-fresh, from-image, MayUse}
 use Rattle.seats.proofs.Settling.{refused-leaves}
 use Rattle.seats.proofs.ListTheorem.{list-theorem}
-use Rattle.seats.proofs.RecordVerdict.{record-refused}
+use Rattle.seats.proofs.RecordVerdict.{number-above-0, record-refused}
 use Rattle.seats.proofs.SaveOutcomes.{front-loads}
 use Rattle.seats.proofs.LoadRefusals.{load-refusals}
 use Rattle.keeper.specs.Block.{block-length, state-in, holding, of-state, code-of, no-state, not-saved, save-code}
@@ -109,7 +109,7 @@ code-tells s l = go (step s l .0) refl
     go accepted e = refl
     go (answered true) e = refl
     go (answered false) e = refl
-    go (refused n p) e = le-leb 256 (256 * n + p) (elim (record-refused s (step s l) l refl n p e .0) [ inl (x, _) ↦ omega arith | inr (x, _) ↦ omega arith ])
+    go (refused n p) e = le-leb 256 (256 * n + p) (let x = number-above-0 n (record-refused s (step s l) l refl n p e .0) in omega arith)
 
 codes-tell : (s : State) (l : List (List ℕ)) → map refused-code (map code-of (answers s l)) ≡ map is-refusal (answers s l)
 unfolding answers run

@@ -14,7 +14,7 @@ use Rattle.graph.specs.Editing.{Change, edit, changed}
 use Rattle.graph.specs.Refusing.{Verdict, verdict, input-checks, state-checks, Passes}
 use Rattle.graph.proofs.Closing.{Laid, closed-equation, closed-unique}
 use Rattle.graph.proofs.Edits.{laid}
-use Rattle.graph.proofs.Refusals.{parts, verdict-passes, lowest-number}
+use Rattle.graph.proofs.Refusals.{parts, verdict-passes, first-in-order}
 use Rattle.seats.specs.Bytes.{Bytes}
 use Rattle.seats.specs.Seats as seats
 use Rattle.seats.specs.Calls.{Call, change, declare, lift, assign, unassign, ask, accepted, refused, checks, with-graph, with-conflicts, with-seats, after, is-refusal}
@@ -26,7 +26,7 @@ use Rattle.seats.specs.Lists.{end}
 use Rattle.seats.specs.Tape.{records, feed}
 use Rattle.seats.specs.Tape.{records}
 use Rattle.seats.specs.Promises.{StepPromise, LoadPromise}
-use Rattle.seats.specs.Demands.{read-outcome, refuses, OfLoad, contents-in, load-checks, Reached, ChangedBy, Closes, Says, DemandOne, DemandTwo, DemandThreeWithShorter, Demands}
+use Rattle.seats.specs.Demands.{read-outcome, refuses, OfLoad, contents-in, load-order, load-checks, Reached, ChangedBy, Closes, Says, DemandOne, DemandTwo, DemandThreeWithShorter, Demands}
 use Rattle.seats.specs.Invariants.{Invariant}
 use Rattle.seats.specs.Reading.{read-state, read-answer, read-filled, read-image}
 use Rattle.seats.specs.declared.State.{State}
@@ -38,10 +38,10 @@ use Rattle.seats.proofs.History.{call-ordinary, call-declared, call-ass
 use Rattle.seats.proofs.ListTheorem.{list-theorem}
 use Rattle.seats.proofs.KeeperTheorem.{accepted-load, keeper-theorem}
 use Rattle.seats.proofs.FirstChecks.{first-refuses, refuses-first, Settles, settles}
-use Rattle.seats.proofs.RecordVerdict.{record-refused-iff, record-refused, record-accepted-iff, record-lowest, record-accepted, record-passes}
+use Rattle.seats.proofs.RecordVerdict.{record-refused-iff, record-refused, record-accepted-iff, record-first, record-accepted, record-passes}
 use Rattle.seats.proofs.WholeChecks.{declare-by-whole, assign-by-whole}
 use Rattle.seats.proofs.LoadRefusals.{load-refusals}
-use Rattle.seats.proofs.LoadVerdict.{load-checks-ascend, load-settles, read-judged, read-passed, measure-refuses, measure-loads}
+use Rattle.seats.proofs.LoadVerdict.{load-checks-in-order, load-settles, read-judged, read-passed, measure-refuses, measure-loads}
 use Rattle.seats.proofs.ImageAlone.{load-alone}
 use Rattle.seats.proofs.OneOutcome.{one-outcome, one-image, one-measured, one-left, one-part}
 use Rattle.seats.proofs.TapeRecords.{answers-count}
@@ -152,7 +152,7 @@ pub demand-two : DemandTwo
 unfolding is-refusal
 demand-two = record {
   call-refused-iff = λ s t l a n p e. record-refused-iff (read-state s) (read-outcome (a, t)) l e n p;
-  lowest-number = λ s t l a n p c e r q. record-lowest (read-state s) (read-outcome (a, t)) l e c q n p r;
+  first-in-order = λ s t l a n p c e r q. record-first (read-state s) (read-outcome (a, t)) l e c q n p r;
   call-accepted-iff = λ s t l a e. record-accepted-iff (read-state s) (read-outcome (a, t)) l e;
   call-accepted = λ s t l a c e q r. by-part (record-accepted (read-state s) (read-outcome (a, t)) l e c q r);
   change-accepted = λ s t l a c e q r. subst (ChangedBy c (read-state s)) (sym (left s t l a (change c) e q r)) (changed-by (read-state s) c);
@@ -164,8 +164,8 @@ demand-two = record {
   declare-whole = λ start from l b. declare-by-whole (end start l) (list-theorem start from l b .invariant);
   assign-whole = λ start from l b. assign-by-whole (end start l) (list-theorem start from l b .invariant);
   load-refused-iff = λ s t l a n p e. load-settled s t l a e .refused-iff n p;
-  load-lowest-number = λ s t l a n p e r.
-      lowest-number (load-checks l) n p (load-checks-ascend l) (first-refuses (load-checks l) n p (load-settled s t l a e .refused-iff n p .0 r));
+  load-first-in-order = λ s t l a n p e r.
+      first-in-order load-order (load-checks l) n p (load-checks-in-order l) (first-refuses (load-checks l) n p (load-settled s t l a e .refused-iff n p .0 r));
   load-accepted-iff = λ s t l a e.
       let z = load-settled s t l a e in (
         λ r. z .accepted-iff .0 (no-refusal a r),

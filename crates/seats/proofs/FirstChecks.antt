@@ -1,21 +1,18 @@
 -- A verdict is a refusal exactly where its check is the first of the list that holds, and none exactly where no check holds.
 -- Assumes nothing.
 use mathlib.Core.Path.{_≡_, refl, sym, ap, _∙_, subst}
-use mathlib.Core.Bool.{Bool, true, false, _&&_, _||_}
+use mathlib.Core.Bool.{true, false}
 use mathlib.Core.Logic.{_↔_, inl, inr}
 use mathlib.Core.List.{List, [], _∷_}
 use Prim.Native.Nat.{ℕ}
 use native.Mathlib.Omega.{arith}
-use lib.Dec.{T, leb, leb→le}
-use Rattle.sets.proofs.Tests.{both, either, passes, fails, decide}
-use Rattle.graph.specs.Editing.{add-by-place, add-by-privileges, remove-role, grant, withdraw, add-edge, remove-edge}
-use Rattle.graph.specs.Refusing.{Check, Verdict, passed, verdict, input-checks, state-checks, still-below, closed-checks, declare-checks, lift-checks, Passes, First}
+use lib.Dec.{T}
+use Rattle.sets.proofs.Tests.{both, passes, fails, decide}
+use Rattle.graph.specs.Refusing.{Check, Verdict, passed, verdict, listed, from, Passes, First}
 use Rattle.graph.specs.Refusing as refusing
-use Rattle.graph.proofs.Refusals.{passed-passes, verdict-passes}
+use Rattle.graph.proofs.Refusals.{passed-passes, verdict-passes, in-order, from-listed}
 use Rattle.graph.proofs.Judging.{stops, moves-on}
-use Rattle.seats.specs.Seats.{State}
-use Rattle.seats.specs.Calls.{Call, change, declare, lift, assign, unassign, ask, Answer, refused, seat-checks, checks, settle, is-refusal}
-use Rattle.seats.specs.Demands.{OfCall}
+use Rattle.seats.specs.Calls.{Answer, refused, settle, is-refusal}
 use Rattle.seats.proofs.JudgedCalls.{settle-refused, settle-passed}
 
 no-refusal : {n p : ℕ} → passed ≡ refusing.refused n p → ⊥
@@ -97,45 +94,11 @@ module _ {S : Type 0} (l : List Check) (a : Answer) (own : is-refusal a ≡ fals
       go passed q = by-passing q
       go (refusing.refused m k) q = by-refusing m k q
 
--- ---- the numbers of calls
--- The number is 1 to 5, or 20 to 30.
-in-range : ℕ → Bool
-in-range n = (leb 1 n && leb n 5) || (leb 20 n && leb n 30)
-
--- Each check of the list has such a number.
-all-in : List Check → Bool
-all-in [] = true
-all-in (c ∷ l) = in-range (c .number) && all-in l
-
-checks-in : (s : State) (c : Call) (h : State) → all-in (checks s c h) ≡ true
-unfolding all-in in-range checks input-checks state-checks seat-checks still-below closed-checks declare-checks lift-checks
-checks-in s (change (add-by-place a own juniors seniors)) h = refl
-checks-in s (change (add-by-privileges a own)) h = refl
-checks-in s (change (remove-role a b)) h = refl
-checks-in s (change (grant a b)) h = refl
-checks-in s (change (withdraw a b)) h = refl
-checks-in s (change (add-edge a b)) h = refl
-checks-in s (change (remove-edge a b)) h = refl
-checks-in s (declare a b) h = refl
-checks-in s (lift a b) h = refl
-checks-in s (assign a b) h = refl
-checks-in s (unassign a b) h = refl
-checks-in s (ask a b) h = refl
-
-range-of : (n : ℕ) → T (in-range n) → OfCall n
-unfolding in-range
-range-of n t =
-    elim (either (leb 1 n && leb n 5) (leb 20 n && leb n 30) t) [
-      | inl x ↦ inl (let (y, z) = both (leb 1 n) (leb n 5) x in (leb→le 1 n y, leb→le n 5 z))
-      | inr x ↦ inr (let (y, z) = both (leb 20 n) (leb n 30) x in (leb→le 20 n y, leb→le n 30 z))
-    ]
-
-first-in : (l : List Check) (n p : ℕ) → T (all-in l) → First l n p → T (in-range n)
-unfolding all-in First
-first-in [] n p a f = absurd f
-first-in (c ∷ l) n p a (inl (t, q, r)) = subst (λ (k : ℕ). T (in-range k)) q (both (in-range (c .number)) (all-in l) a .0)
-first-in (c ∷ l) n p a (inr (t, f)) = first-in l n p (both (in-range (c .number)) (all-in l) a .1) f
-
--- A call is refused with 1 to 5, or 20 to 30.
-pub call-number : (s : State) (c : Call) (h : State) (n p : ℕ) → First (checks s c h) n p → OfCall n
-call-number s c h n p f = range-of n (first-in (checks s c h) n p (subst T (sym (checks-in s c h)) tt) f)
+-- ---- the numbers of refusals
+-- Where the checks stand in an order, the first that holds has a number of it.
+pub first-listed : (o : List ℕ) (l : List Check) (n p : ℕ) → T (in-order o l) → First l n p → T (listed o n)
+unfolding in-order First
+first-listed o [] n p a f = absurd f
+first-listed o (c ∷ l) n p a (inl (t, q, r)) = subst (λ (k : ℕ). T (listed o k)) q (both (listed o (c .number)) (in-order (from o (c .number)) l) a .0)
+first-listed o (c ∷ l) n p a (inr (t, f)) =
+    from-listed o (c .number) n (first-listed (from o (c .number)) l n p (both (listed o (c .number)) (in-order (from o (c .number)) l) a .1) f)

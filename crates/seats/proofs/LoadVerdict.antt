@@ -7,18 +7,18 @@ use mathlib.Core.List.{List, _++_}
 use Prim.Native.Nat.{ℕ}
 use native.Mathlib.Omega.{arith}
 use lib.ListN.{length}
-use lib.Dec.{not-T, eqb, leb, ltb, leb→le, ltb→lt, nltb→le, le→leb}
+use lib.Dec.{T, not-T, eqb, leb, ltb, leb→le, ltb→lt, nltb→le, le→leb}
 use Rattle.sets.proofs.Tests.{same-test}
-use Rattle.graph.specs.Refusing.{Verdict, passed, verdict}
+use Rattle.graph.specs.Refusing.{Verdict, passed, verdict, listed, from}
 use Rattle.graph.specs.Refusing as refusing
-use Rattle.graph.proofs.Refusals.{ascending-numbers, ascending-from}
+use Rattle.graph.proofs.Refusals.{in-order}
 use Rattle.lists.specs.Settling as settling
 use Rattle.seats.specs.Bytes.{Bytes}
 use Rattle.seats.specs.Seats.{State}
 use Rattle.seats.specs.Calls.{accepted, judged, settle}
 use Rattle.seats.specs.Images.{least-image, distance, far-at, counts-at, restored, entry-checks, content-checks, Loaded, loaded, not-loaded, unless-refused, load-contents, load-trailer, load, settle-load, load-over, measured, unmeasured, measure-loaded, measure}
 use Rattle.seats.specs.Images as images
-use Rattle.seats.specs.Demands.{contents-in, load-checks}
+use Rattle.seats.specs.Demands.{contents-in, load-order, load-checks}
 use Rattle.seats.proofs.LoadedSaves.{image-far}
 
 -- At most is not above.
@@ -56,10 +56,10 @@ pub load-settles : (s : State) (l : List ℕ) → load-over s l ≡ settle (verd
 unfolding load-over
 load-settles s l = ap (settle-load s) (load-judged l) ∙ settled-load s (restored (contents-in l)) (verdict (load-checks l))
 
--- The checks of a load stand in the order of their numbers.
-pub load-checks-ascend : (l : List ℕ) → ascending-numbers (load-checks l) ≡ true
-unfolding ascending-numbers ascending-from load-checks entry-checks content-checks
-load-checks-ascend l = refl
+-- The checks of a load stand in their order.
+pub load-checks-in-order : (l : List ℕ) → T (in-order load-order (load-checks l))
+unfolding in-order load-order listed from load-checks entry-checks content-checks
+load-checks-in-order l = tt
 
 -- ---- reading and measuring
 

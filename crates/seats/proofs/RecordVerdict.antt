@@ -1,20 +1,26 @@
 -- A record is judged by what it decodes to: it is refused with 1, or by the first check of its call that holds, or it is accepted.
 -- Assumes nothing.
-use mathlib.Core.Path.{_≡_, refl, sym, ap, _∙_}
+use mathlib.Core.Path.{_≡_, refl, sym, ap, _∙_, subst}
 use mathlib.Core.Bool.{false}
-use mathlib.Core.Logic.{_↔_, inl}
+use mathlib.Core.Logic.{_↔_}
 use mathlib.Core.List.{List, List·Memᴰ}
-use Prim.Native.Nat.{ℕ, _≤_}
+use Prim.Native.Nat.{ℕ, zero, suc, _≤_}
 use native.Mathlib.Omega.{arith}
 use lib.Dec.{T}
-use Rattle.graph.specs.Refusing.{Check, Passes}
-use Rattle.graph.proofs.Refusals as refusals
+use Rattle.graph.specs.Refusing.{Check, refusal-order, listed, no-earlier, Passes}
+use Rattle.graph.proofs.Refusals.{first-in-order}
 use Rattle.seats.specs.Seats.{State}
 use Rattle.seats.specs.Calls.{Call, change, declare, lift, assign, unassign, ask, Answer, refused, checks, after, reply, perform, is-refusal}
 use Rattle.seats.specs.Records.{Decoded, malformed, well-formed, decode, perform-decoded, step}
 use Rattle.seats.specs.Demands.{RefusedWith, Unrefused, OfCall}
-use Rattle.seats.proofs.Settling.{performs, checks-ascend}
-use Rattle.seats.proofs.FirstChecks.{no-true, first-refuses, Settles, settles, call-number}
+use Rattle.seats.proofs.Settling.{performs, checks-in-order}
+use Rattle.seats.proofs.FirstChecks.{no-true, first-refuses, Settles, settles, first-listed}
+
+-- The number of a refusal is not 0.
+pub number-above-0 : (n : ℕ) → OfCall n → 1 ≤ n
+unfolding refusal-order listed
+number-above-0 zero t = absurd t
+number-above-0 (suc n) t = omega arith
 
 -- The answer of a call's kind is no refusal.
 own-answer : (s : State) (c : Call) → is-refusal (reply s c) ≡ false
@@ -41,9 +47,9 @@ module _ (s : State) (z : Answer × State) where
   decoded-refused-iff (well-formed c) e n p = call-settles s c z e .refused-iff n p
 
   decoded-number : (d : Decoded) (n p : ℕ) → RefusedWith s d n p → OfCall n
-  unfolding RefusedWith
-  decoded-number malformed n p (a, b) = inl (omega arith, omega arith)
-  decoded-number (well-formed c) n p f = call-number s c (after s c) n p f
+  unfolding RefusedWith refusal-order listed
+  decoded-number malformed n p (a, b) = subst OfCall (sym a) tt
+  decoded-number (well-formed c) n p f = first-listed refusal-order (checks s c (after s c)) n p (checks-in-order s c (after s c)) f
 
   decoded-leaves : (d : Decoded) → z ≡ perform-decoded s d → (n p : ℕ) → z .0 ≡ refused n p → z .1 ≡ s
   unfolding perform-decoded
@@ -78,10 +84,10 @@ module _ (s : State) (z : Answer × State) where
       by-checks : Settles (checks s c (after s c)) (reply s c) s (after s c) z
       by-checks = call-settles s c z carried
 
-      -- No check that holds has a lower number than the refusal.
-      pub record-lowest : (n p : ℕ) → z .0 ≡ refused n p → (k : Check) → List·Memᴰ k (checks s c (after s c)) → T (k .holds) → n ≤ k .number
-      record-lowest n p r =
-          refusals.lowest-number (checks s c (after s c)) n p (checks-ascend s c (after s c))
+      -- No check that holds has an earlier number than the refusal.
+      pub record-first : (n p : ℕ) → z .0 ≡ refused n p → (k : Check) → List·Memᴰ k (checks s c (after s c)) → T (k .holds) → T (no-earlier refusal-order n (k .number))
+      record-first n p r =
+          first-in-order refusal-order (checks s c (after s c)) n p (checks-in-order s c (after s c))
           (first-refuses (checks s c (after s c)) n p (by-checks .refused-iff n p .0 r))
 
       module _ (r : is-refusal (z .0) ≡ false) where

@@ -1,15 +1,15 @@
 -- One call: it is refused and leaves the state, or nothing refuses it and it leaves the state after it.
 -- Assumes nothing.
 use mathlib.Core.Path.{_≡_, refl}
-use mathlib.Core.Bool.{true, not}
+use mathlib.Core.Bool.{not}
 use mathlib.Core.Logic.{_⊎_}
 use mathlib.Core.List.{List}
 use Prim.Native.Nat.{ℕ}
 use lib.Dec.{T}
 use Rattle.graph.specs.Editing.{add-by-place, add-by-privileges, remove-role, grant, withdraw, add-edge, remove-edge}
-use Rattle.graph.specs.Refusing.{passed, verdict, input-checks, state-checks, still-below, closed-checks, declare-checks, lift-checks, Passes}
+use Rattle.graph.specs.Refusing.{passed, verdict, refusal-order, listed, from, input-checks, state-checks, still-below, closed-checks, declare-checks, lift-checks, Passes}
 use Rattle.graph.specs.Refusing as refusing
-use Rattle.graph.proofs.Refusals.{ascending-numbers, ascending-from}
+use Rattle.graph.proofs.Refusals.{in-order}
 use Rattle.seats.proofs.JudgedCalls.{Refuses, Accepts, refused-call, passed-call, call-settles, passing-call, refused-call-leaves, unrefused-call-accepts}
 use Rattle.seats.specs.Seats.{State}
 use Rattle.seats.specs.Calls.{Call, change, declare, lift, assign, unassign, ask, refused, seat-checks, checks, after, reply, settle, perform, is-refusal}
@@ -78,18 +78,18 @@ accepted-carries s l = go (decode l) refl
     go malformed e t = absurd t
     go (well-formed c) e t = record { call = c; decodes = e; accepts = perform-accepted s c t }
 
--- ---- the lowest number wins: every call's checks stand in the order of their numbers
-pub checks-ascend : (s : State) (c : Call) (h : State) → ascending-numbers (checks s c h) ≡ true
-unfolding ascending-numbers ascending-from checks input-checks state-checks seat-checks still-below closed-checks declare-checks lift-checks
-checks-ascend s (change (add-by-place a own juniors seniors)) h = refl
-checks-ascend s (change (add-by-privileges a own)) h = refl
-checks-ascend s (change (remove-role a b)) h = refl
-checks-ascend s (change (grant a b)) h = refl
-checks-ascend s (change (withdraw a b)) h = refl
-checks-ascend s (change (add-edge a b)) h = refl
-checks-ascend s (change (remove-edge a b)) h = refl
-checks-ascend s (declare a b) h = refl
-checks-ascend s (lift a b) h = refl
-checks-ascend s (assign a b) h = refl
-checks-ascend s (unassign a b) h = refl
-checks-ascend s (ask a b) h = refl
+-- ---- every call's checks stand in the order of refusals
+pub checks-in-order : (s : State) (c : Call) (h : State) → T (in-order refusal-order (checks s c h))
+unfolding in-order refusal-order listed from checks input-checks state-checks seat-checks still-below closed-checks declare-checks lift-checks
+checks-in-order s (change (add-by-place a own juniors seniors)) h = tt
+checks-in-order s (change (add-by-privileges a own)) h = tt
+checks-in-order s (change (remove-role a b)) h = tt
+checks-in-order s (change (grant a b)) h = tt
+checks-in-order s (change (withdraw a b)) h = tt
+checks-in-order s (change (add-edge a b)) h = tt
+checks-in-order s (change (remove-edge a b)) h = tt
+checks-in-order s (declare a b) h = tt
+checks-in-order s (lift a b) h = tt
+checks-in-order s (assign a b) h = tt
+checks-in-order s (unassign a b) h = tt
+checks-in-order s (ask a b) h = tt

@@ -50,7 +50,7 @@ seat-checks s (withdraw a b) = []
 seat-checks s (add-edge a b) = []
 seat-checks s (remove-edge a b) = []
 
--- The refusals of a call in the order of their numbers, h being the state that the call would leave.
+-- The checks of a call in the order of refusals, h being the state that the call would leave.
 unfoldable pub checks : State → Call → State → List Check
 checks s (change c) h =
     input-checks c

@@ -14,7 +14,7 @@ use Rattle.graph.specs.Conflicts.{declared}
 use Rattle.graph.specs.Drawing.{Drawing, redraw}
 use Rattle.graph.specs.Closing.{counts, close}
 use Rattle.graph.specs.Editing.{Change, edit}
-use Rattle.graph.specs.Refusing.{Check, refuse, refuse-lowest, verdict, Passes, First, no-privilege-number, pair-of-one, closed-checks}
+use Rattle.graph.specs.Refusing.{Check, refuse, refuse-lowest, verdict, Passes, First, refusal-order, listed, no-earlier, no-privilege-number, pair-of-one, closed-checks}
 use Rattle.graph.specs.Refusing as refusing
 use Rattle.seats.specs.Bytes.{Bytes, written, too-short}
 use Rattle.seats.specs.Bytes as bytes
@@ -76,9 +76,9 @@ unfoldable pub Unrefused : seats.State → Decoded → Type 0
 Unrefused s malformed = ⊥
 Unrefused s (well-formed c) = Passes (checks s c (after s c))
 
--- The number of a refusal of a call: 1 to 5, or 20 to 30.
+-- The number of a refusal of a call: one of the order of refusals.
 abbrev pub OfCall : ℕ → Type 0
-OfCall n = ((1 ≤ n) × (n ≤ 5)) ⊎ ((20 ≤ n) × (n ≤ 30))
+OfCall n = T (listed refusal-order n)
 
 -- The number of a refusal of a load: 6, 7 or 8.
 abbrev pub OfLoad : ℕ → Type 0
@@ -87,6 +87,10 @@ OfLoad n = (n ≡ 6) ⊎ (n ≡ 7) ⊎ (n ≡ 8)
 -- What the trailer of the bytes says lies before their end: the image's contents, read by its distance and counts.
 abbrev pub contents-in : List ℕ → Contents
 contents-in l = contents l (length l - far-at l (length l)) (counts-at l (length l))
+
+-- The order of a load's refusals.
+unfoldable pub load-order : List ℕ
+load-order = 6 ∷ 7 ∷ 8 ∷ []
 
 -- The refusals of a load in the paper's order: 6 by the bytes and the trailer, 7 by the entries, 8 by the state that they describe.
 unfoldable pub load-checks : List ℕ → List Check
@@ -178,9 +182,9 @@ pub record DemandTwo : Type 0 where
   -- A record is refused with a number and a place exactly where their condition is the first in the order that holds.
   pub call-refused-iff : (s t : State) (l : List ℕ) (a : Answer) (n p : ℕ) → StepPromise s l a t
       → (read-answer a ≡ refused n p) ↔ RefusedWith (read-state s) (decode l) n p
-  -- The order is that of the numbers: no check of the call that holds has a lower one.
-  pub lowest-number : (s t : State) (l : List ℕ) (a : Answer) (n p : ℕ) (c : Call) → StepPromise s l a t → read-answer a ≡ refused n p → decode l ≡ well-formed c
-      → (k : Check) → List·Memᴰ k (checks (read-state s) c (after (read-state s) c)) → T (k .holds) → n ≤ k .number
+  -- The order is that of the list of numbers: no check of the call that holds has an earlier one.
+  pub first-in-order : (s t : State) (l : List ℕ) (a : Answer) (n p : ℕ) (c : Call) → StepPromise s l a t → read-answer a ≡ refused n p → decode l ≡ well-formed c
+      → (k : Check) → List·Memᴰ k (checks (read-state s) c (after (read-state s) c)) → T (k .holds) → T (no-earlier refusal-order n (k .number))
   -- A record is accepted exactly where it carries a call of which no check holds.
   pub call-accepted-iff : (s t : State) (l : List ℕ) (a : Answer) → StepPromise s l a t
       → (refuses a ≡ false) ↔ Unrefused (read-state s) (decode l)
@@ -204,9 +208,9 @@ pub record DemandTwo : Type 0 where
       → let s = end start l in verdict (whole-assign s a b) ≡ verdict (checks s (assign a b) (after s (assign a b)))
   -- A load is refused with a number and a place exactly where their condition is the first in the order that holds.
   pub load-refused-iff : (s t : State) (l : List ℕ) (a : Answer) (n p : ℕ) → LoadPromise s l a t → (read-answer a ≡ refused n p) ↔ First (load-checks l) n p
-  -- Here too the order is that of the numbers.
-  pub load-lowest-number : (s t : State) (l : List ℕ) (a : Answer) (n p : ℕ) → LoadPromise s l a t → read-answer a ≡ refused n p
-      → (k : Check) → List·Memᴰ k (load-checks l) → T (k .holds) → n ≤ k .number
+  -- Here the order is 6, 7, 8.
+  pub load-first-in-order : (s t : State) (l : List ℕ) (a : Answer) (n p : ℕ) → LoadPromise s l a t → read-answer a ≡ refused n p
+      → (k : Check) → List·Memᴰ k (load-checks l) → T (k .holds) → T (no-earlier load-order n (k .number))
   -- It is accepted exactly where none holds, and gives the state that the image's entries describe.
   pub load-accepted-iff : (s t : State) (l : List ℕ) (a : Answer) → LoadPromise s l a t → (read-answer a ≡ accepted) ↔ Passes (load-checks l)
   pub load-accepted : (s t : State) (l : List ℕ) (a : Answer) → LoadPromise s l a t → read-answer a ≡ accepted → read-state t ≡ restored (contents-in l)
