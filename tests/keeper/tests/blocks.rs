@@ -145,7 +145,7 @@ fn takes(random: &mut Random, words: &mut [u64], load: bool) {
         true => block::load(words, &bytes),
         false => block::call(words, &bytes),
     };
-    assert!(answer < 31 * 256, "{answer}");
+    assert!(answer < 32 * 256, "{answer}");
     assert_eq!(words[WORDS..], before[WORDS..]);
     if answer >= 256 {
         assert_eq!(words, before);

@@ -212,7 +212,7 @@ fn of_variant(variant: &dyn std::fmt::Debug) -> String {
 #[test]
 fn the_header_names_the_wrappers_refusals() {
     let header = named("keeper_refusal");
-    assert_eq!(header.len(), 20);
+    assert_eq!(header.len(), 21);
     for (name, number) in header {
         assert_eq!(of_variant(&Refusal::of(number, 0)), name);
     }

@@ -117,6 +117,14 @@ fn same_state<K: Keeper>(keeper: &K, words: &Words) -> Check {
 
 // ---- counting ----
 
+/// Every refusal number is below this.
+const NUMBERS: usize = 32;
+
+/// The refusal numbers.
+fn refusals() -> impl Iterator<Item = usize> {
+    (1..=9).chain(20..=31)
+}
+
 /// For each kind from 1, the refusals that can arise in it. Those left out
 /// can't: kinds 2 and 3 change no seat's union for the worse, kinds 3, 5 and 7
 /// only shrink sets, and kinds 3, 4, 6 and 7 empty no role.
@@ -125,7 +133,7 @@ const POSSIBLE: [&[usize]; 12] = [
     &[1, 2, 3, 20, 27, 28, 29],
     &[1, 2, 3, 21, 24, 28],
     &[1, 2, 3, 21, 22, 28, 29, 30],
-    &[1, 2, 3, 21, 23, 27, 28],
+    &[1, 2, 3, 21, 23, 31, 27, 28],
     &[1, 2, 3, 5, 21, 22, 25, 28, 29, 30],
     &[1, 2, 3, 5, 21, 23, 26, 28],
     &[1, 2, 4, 22, 29, 30],
@@ -145,9 +153,9 @@ pub struct Counts {
     pub reloads: usize,
     pub loaded: usize,
     /// By refusal number.
-    pub refused: [usize; 31],
+    pub refused: [usize; NUMBERS],
     /// Refused calls by kind, then by refusal number.
-    pub refused_in_kind: [[usize; 31]; 13],
+    pub refused_in_kind: [[usize; NUMBERS]; 13],
     /// By kind.
     pub accepted: [usize; 13],
     pub yes: usize,
@@ -163,8 +171,8 @@ impl Counts {
             saves: 0,
             reloads: 0,
             loaded: 0,
-            refused: [0; 31],
-            refused_in_kind: [[0; 31]; 13],
+            refused: [0; NUMBERS],
+            refused_in_kind: [[0; NUMBERS]; 13],
             accepted: [0; 13],
             yes: 0,
             no: 0,
@@ -205,8 +213,7 @@ impl Counts {
 
     /// All that a run should see and this one hasn't.
     pub fn missing(&self) -> Vec<String> {
-        let numbers = (1..=9).chain(20..=30);
-        let unseen = numbers.filter(|number| self.refused[*number] == 0);
+        let unseen = refusals().filter(|number| self.refused[*number] == 0);
         let mut missing: Vec<String> = unseen.map(|number| format!("refusal {number}")).collect();
         let idle = (1..=12).filter(|kind| self.accepted[*kind] == 0);
         missing.extend(idle.map(|kind| format!("kind {kind} accepted")));
@@ -257,12 +264,12 @@ impl fmt::Display for Counts {
             write!(out, " {kind}:{}", self.accepted[kind])?;
         }
         write!(out, "\nrefused by number:")?;
-        for number in (1..=9).chain(20..=30) {
+        for number in refusals() {
             write!(out, " {number}:{}", self.refused[number])?;
         }
         for kind in 1..=12 {
             write!(out, "\nkind {kind} refused:")?;
-            for number in (1..=30).filter(|number| self.refused_in_kind[kind][*number] > 0) {
+            for number in refusals().filter(|number| self.refused_in_kind[kind][*number] > 0) {
                 write!(out, " {number}:{}", self.refused_in_kind[kind][number])?;
             }
         }

@@ -112,7 +112,8 @@ fn likely(random: &mut Random, state: &Reference, numbers: &Numbers) -> Vec<u8> 
         1 => likely_place(random, state, numbers),
         2 => likely_privileges(random, state, numbers),
         3 => likely_remove(random, state),
-        4 | 5 => likely_grant(random, state, numbers, kind),
+        4 => likely_grant(random, state, numbers),
+        5 => likely_withdrawal(random, state, numbers),
         6 => likely_edge(random, state),
         7 => likely_edge_removal(random, state),
         8 => likely_conflict(random, state, numbers),
@@ -176,20 +177,29 @@ fn likely_remove(random: &mut Random, state: &Reference) -> Option<Vec<u8>> {
     Some(short(3, role, random.under(2) as u8))
 }
 
-fn likely_grant(
-    random: &mut Random,
-    state: &Reference,
-    numbers: &Numbers,
-    kind: u8,
-) -> Option<Vec<u8>> {
+/// The privileges of the mix that the role doesn't hold.
+fn lacked(state: &Reference, role: u8, numbers: &Numbers) -> Vec<u8> {
+    let lacks = |privilege: &u8| !has(state.effective(role), *privilege);
+    numbers.privileges.clone().filter(lacks).collect()
+}
+
+fn likely_grant(random: &mut Random, state: &Reference, numbers: &Numbers) -> Option<Vec<u8>> {
     let role = present_role(random, state)?;
-    let privileges: Vec<u8> = if kind == 4 {
-        let lacks = |privilege: &u8| !has(state.effective(role), *privilege);
-        numbers.privileges.clone().filter(lacks).collect()
-    } else {
-        members(state.direct(role))
+    let privilege = random.pick(&lacked(state, role, numbers))?;
+    Some(short(4, role, privilege))
+}
+
+/// A withdrawal of a direct privilege, now and then of one that the role has
+/// through a junior or doesn't hold.
+fn likely_withdrawal(random: &mut Random, state: &Reference, numbers: &Numbers) -> Option<Vec<u8>> {
+    let role = present_role(random, state)?;
+    let direct = state.direct(role);
+    let privileges = match random.under(10) {
+        0 => members(state.effective(role) & !direct),
+        1 => lacked(state, role, numbers),
+        _ => members(direct),
     };
-    Some(short(kind, role, random.pick(&privileges)?))
+    Some(short(5, role, random.pick(&privileges)?))
 }
 
 fn likely_edge(random: &mut Random, state: &Reference) -> Option<Vec<u8>> {

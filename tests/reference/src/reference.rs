@@ -1,13 +1,16 @@
-//! The role keeper of document 01 in its plainest form: a map of roles to
-//! effective sets, an explicit list of edges, closing by joining until nothing
-//! changes, redrawing by the definition.
+//! The role keeper of document 01 and of item 1 of document 02, in its
+//! plainest form: a map of roles to effective sets, an explicit list of edges,
+//! closing by joining until nothing changes, redrawing by the definition.
 //!
-//! A set is a 64-bit word, member n at bit n.
+//! A set is a 64-bit word, member n at bit n. Refusals are judged in the order
+//! of their numbers, except that 31 stands directly after 23.
 //!
-//! Choices where the document is open:
+//! Choices where the documents are open:
 //!
-//! - The place of refusals 4, 22 and 23 is byte 1 of the record as given, so
-//!   "declare 5, 2" has place 5, and kinds 10 and 11 have the seat as place.
+//! - The place of refusals 4, 22, 23 and 31 is byte 1 of the record as given,
+//!   so "declare 5, 2" has place 5, and kinds 10 and 11 have the seat as place.
+//! - A privilege that a role "doesn't hold at all" (23 in kind 5) is one that
+//!   isn't effective in it; so no call meets both 23 and 31.
 //! - In kind 3 a b above 1 is refused with 1 whatever its size, never with 2.
 //! - "Another named role" (21) is any named role that isn't the role to be
 //!   added; so for kinds 3 to 7, 10 and 11 all the named roles count.
@@ -486,7 +489,7 @@ impl Reference {
         Ok(0)
     }
 
-    // Refusals 20 to 25.
+    // Refusals 20 to 25, with 31 directly after 23.
 
     fn refuse_state(&self, record: &Record) -> Result<(), Answer> {
         let others = record.other_roles();
@@ -497,6 +500,7 @@ impl Reference {
         )?;
         refuse_at(22, self.already_so(record).then_some(record.a))?;
         refuse_at(23, self.not_so(record).then_some(record.a))?;
+        refuse_at(31, self.only_inherited(record).then_some(record.a))?;
         refuse_at(24, self.seat_of_removed(record))?;
         refuse_at(25, self.circle(record))
     }
@@ -520,12 +524,18 @@ impl Reference {
     fn not_so(&self, record: &Record) -> bool {
         let (a, b) = (record.a, record.b);
         match record.kind {
-            5 => !has(self.direct(a), b),
+            5 => !has(self.effective(a), b),
             7 => !self.graph.edges.contains(&(a, b)),
             9 => !self.conflicts.contains(&lower_first(a, b)),
             11 => !self.seat_has_role(a, b),
             _ => false,
         }
+    }
+
+    /// A withdrawal's privilege is effective but not direct.
+    fn only_inherited(&self, record: &Record) -> bool {
+        let (a, b) = (record.a, record.b);
+        record.kind == 5 && has(self.effective(a), b) && !has(self.direct(a), b)
     }
 
     fn seat_of_removed(&self, record: &Record) -> Option<u8> {

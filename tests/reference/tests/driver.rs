@@ -41,6 +41,14 @@ fn a_short_run_does_not_see_all() {
 }
 
 #[test]
+fn a_run_should_see_both_refusals_of_a_withdrawal() {
+    let missing = Counts::none().missing();
+    for unseen in ["refusal 31", "kind 5 refused 23", "kind 5 refused 31"] {
+        assert!(missing.iter().any(|text| text == unseen), "{unseen}");
+    }
+}
+
+#[test]
 fn shrinker_finds_the_shortest() {
     let list: Vec<u32> = (0..1_000).collect();
     let fails = |part: &[u32]| part.contains(&17) && part.contains(&903);
@@ -64,6 +72,8 @@ const REPEATS_FIRST: u8 = 7;
 const WRITES_BEHIND: u8 = 8;
 const CHANGES_ON_REFUSED_LOAD: u8 = 9;
 const PANICS_AT_30: u8 = 10;
+const INHERITED_AS_23: u8 = 11;
+const LACKED_AS_31: u8 = 12;
 
 /// The reference with one fault.
 struct Broken<const FAULT: u8> {
@@ -74,6 +84,7 @@ struct Broken<const FAULT: u8> {
 impl<const FAULT: u8> Broken<FAULT> {
     fn faulty(&mut self, record: &[u8], answer: (u8, u8)) -> (u8, u8) {
         let is_ask = record.first() == Some(&12);
+        let is_withdrawal = record.first() == Some(&5);
         let first = *self.first.get_or_insert(answer);
         match (FAULT, answer) {
             (ALWAYS_28, _) => (28, 0),
@@ -81,6 +92,8 @@ impl<const FAULT: u8> Broken<FAULT> {
             (ALWAYS_YES, (0, 0)) if is_ask => (0, 1),
             (REPEATS_FIRST, _) => first,
             (PANICS_AT_30, (30, _)) => panic!("the fault of this keeper"),
+            (INHERITED_AS_23, (31, place)) => (23, place),
+            (LACKED_AS_31, (23, place)) if is_withdrawal => (31, place),
             _ => answer,
         }
     }
@@ -201,6 +214,16 @@ fn catches_wrong_place_of_29() {
         text.contains("answer") && text.contains("reference (29, "),
         "{text}"
     );
+}
+
+#[test]
+fn catches_the_wrong_refusal_of_a_withdrawal() {
+    let (steps, text) = caught::<INHERITED_AS_23>();
+    assert!(steps.len() <= 10, "{steps:?}");
+    assert!(text.contains("reference (31, "), "{text}");
+    let (steps, text) = caught::<LACKED_AS_31>();
+    assert!(steps.len() <= 10, "{steps:?}");
+    assert!(text.contains("reference (23, "), "{text}");
 }
 
 #[test]

@@ -1,4 +1,4 @@
-//! Document 01's examples and each of its refusals.
+//! Document 01's examples and each refusal of documents 01 and 02.
 
 use role_reference::generate::{largest_image, record, short};
 use role_reference::random::Random;
@@ -53,18 +53,21 @@ fn refuses(keeper: &mut Reference, record: &[u8], number: u8, place: u8) {
     assert!(*keeper == before);
 }
 
+/// The ordinary roles of example A with their effective sets.
+const TABLE_ONE: [(u8, &[u8]); 8] = [
+    (2, &[1]),
+    (3, &[2]),
+    (4, &[1, 3, 4]),
+    (5, &[1, 2, 4, 5]),
+    (6, &[1, 2, 5, 6]),
+    (7, &[2, 7, 8]),
+    (8, &[1, 2, 3, 4, 5, 6, 7, 8, 9, 10]),
+    (9, &[1, 2, 3, 4, 5, 6, 7, 8, 11]),
+];
+
 /// Example A, by kind 2.
 fn table_one() -> Reference {
-    after(&[
-        by_privileges(2, &[1]),
-        by_privileges(3, &[2]),
-        by_privileges(4, &[1, 3, 4]),
-        by_privileges(5, &[1, 2, 4, 5]),
-        by_privileges(6, &[1, 2, 5, 6]),
-        by_privileges(7, &[2, 7, 8]),
-        by_privileges(8, &[1, 2, 3, 4, 5, 6, 7, 8, 9, 10]),
-        by_privileges(9, &[1, 2, 3, 4, 5, 6, 7, 8, 11]),
-    ])
+    after(&TABLE_ONE.map(|(role, members)| by_privileges(role, members)))
 }
 
 fn after_example_3() -> Reference {
@@ -486,11 +489,80 @@ fn refusal_22() {
 #[test]
 fn refusal_23() {
     let mut keeper = table_one();
-    refuses(&mut keeper, &short(5, 8, 1), 23, 8);
+    refuses(&mut keeper, &short(5, 5, 12), 23, 5);
+    refuses(&mut keeper, &short(5, 8, 11), 23, 8);
     refuses(&mut keeper, &short(7, 2, 8), 23, 2);
     refuses(&mut keeper, &short(7, 8, 4), 23, 8);
     refuses(&mut keeper, &short(9, 30, 20), 23, 30);
     refuses(&mut keeper, &short(11, 9, 2), 23, 9);
+}
+
+#[test]
+fn refusal_31() {
+    let mut keeper = table_one();
+    refuses(&mut keeper, &short(5, 5, 1), 31, 5);
+    refuses(&mut keeper, &short(5, 8, 1), 31, 8);
+    refuses(&mut after_example_3(), &short(5, 8, 9), 31, 8);
+}
+
+#[test]
+fn refusal_31_comes_after_those_from_the_input_and_21() {
+    let mut keeper = table_one();
+    refuses(&mut keeper, &short(5, 5, 64), 2, 64);
+    refuses(&mut keeper, &short(5, 1, 1), 3, 1);
+    refuses(&mut keeper, &short(5, 0, 1), 3, 0);
+    refuses(&mut keeper, &short(5, 10, 1), 21, 10);
+}
+
+/// 23 for a privilege that the role lacks, 31 for an inherited one, neither
+/// for a direct one.
+#[test]
+fn withdrawals_from_each_role_of_table_one() {
+    let directs: [&[u8]; 8] = [
+        &[1],
+        &[2],
+        &[3, 4],
+        &[4, 5],
+        &[5, 6],
+        &[7, 8],
+        &[9, 10],
+        &[11],
+    ];
+    for ((role, effective), direct) in TABLE_ONE.into_iter().zip(directs) {
+        for privilege in 0..64 {
+            let withdrawal = short(5, role, privilege);
+            if direct.contains(&privilege) {
+                let number = table_one().call(&withdrawal).number;
+                assert!(number != 23 && number != 31, "{withdrawal:?}");
+            } else if effective.contains(&privilege) {
+                refuses(&mut table_one(), &withdrawal, 31, role);
+            } else {
+                refuses(&mut table_one(), &withdrawal, 23, role);
+            }
+        }
+    }
+}
+
+#[test]
+fn a_direct_privilege_is_withdrawn() {
+    let mut keeper = table_one();
+    accept_all(&mut keeper, &[short(5, 8, 9)]);
+    assert_eq!(keeper.effective(8), run_of(1, 8, &[10]));
+    assert_eq!(keeper.direct(8), set(&[10]));
+    assert_eq!(keeper.effective(1), run_of(1, 8, &[10, 11]));
+    refuses(&mut keeper, &short(5, 8, 9), 23, 8);
+}
+
+#[test]
+fn refused_withdrawals_print() {
+    let tape = [
+        by_privileges(2, &[0]),
+        by_privileges(3, &[0, 1]),
+        short(5, 3, 0),
+        short(5, 3, 2),
+    ];
+    let text = Reference::tape(&tape.concat());
+    assert_eq!(text, "1 0 0\n2 0 0\n3 31 3\n4 23 3\nend 4 3\n");
 }
 
 #[test]

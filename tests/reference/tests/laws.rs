@@ -1,8 +1,8 @@
-//! What the document says about all states holds in random lists.
+//! What the documents say about all states and calls holds in random lists.
 
 use role_reference::generate::{list, Step, MIXES};
 use role_reference::random::{printed_seed, Random};
-use role_reference::reference::{members, Reference, Set};
+use role_reference::reference::{has, members, Answer, Reference, Set};
 
 fn included(inner: Set, outer: Set) -> bool {
     inner & !outer == 0
@@ -81,9 +81,28 @@ fn edge_removal_is_local(record: &[u8], before: &[Set; 64], after: &[Set; 64]) {
     }
 }
 
+/// The answer to a withdrawal tells whether the role lacks the privilege, has
+/// it through a junior, or has it alone.
+fn withdrawal_tells_the_holder(record: &[u8], before: &Reference, answer: Answer) {
+    if !matches!(answer.number, 0 | 23 | 31 | 27 | 28) {
+        return;
+    }
+    let holds = |role: u8| has(before.effective(role), record[2]);
+    let juniors = members(before.juniors_of(record[1]));
+    let expected = match (holds(record[1]), juniors.into_iter().any(holds)) {
+        (false, _) => answer.number == 23,
+        (true, true) => answer.number == 31,
+        (true, false) => !matches!(answer.number, 23 | 31),
+    };
+    assert!(expected, "{record:?} {answer:?}");
+}
+
 fn follow(keeper: &mut Reference, record: &[u8]) {
     let before = keeper.clone();
     let answer = keeper.call(record);
+    if record.first() == Some(&5) {
+        withdrawal_tells_the_holder(record, &before, answer);
+    }
     if answer.number != 0 {
         assert!(*keeper == before);
         return;
