@@ -93,7 +93,8 @@ extern "C" {
 #define KEEPER_NUMBER(answer) ((answer) / 256u % 256u)
 #define KEEPER_PLACE(answer) ((answer) % 256u)
 
-/* The refusals. Among several the lowest number wins; all of them leave block and buffer untouched.
+/* The refusals, in their order: among several the first one here is the answer; all of them leave block and
+ * buffer untouched.
  * "First" means a, then b, then the juniors, then the seniors, a set read from bit 0. */
 enum keeper_refusal {
     /* Not 32 bytes, a kind outside 1 to 12, a non-zero unused field, b above 1 in kind 3. Place 0. */
@@ -120,8 +121,10 @@ enum keeper_refusal {
     KEEPER_ROLE_ABSENT = 21,
     /* Already so: granted, below, declared, assigned. Place: a. */
     KEEPER_ALREADY_SO = 22,
-    /* Not so: not direct, no drawn edge, not declared, not assigned. Place: a. */
+    /* Not so: not held at all, no drawn edge, not declared, not assigned. Place: a. */
     KEEPER_NOT_SO = 23,
+    /* The role has the privilege through a junior: effective but not direct. Place: the role. */
+    KEEPER_THROUGH_JUNIOR = 31,
     /* A seat has the role to be removed. Place: the lowest such seat. */
     KEEPER_ROLE_ASSIGNED = 24,
     /* A circle. Place: a in kind 6, the lowest such junior in kind 1. */
@@ -156,6 +159,7 @@ static inline const char *keeper_refusal_text(uint32_t number)
     case KEEPER_ROLE_ABSENT: return "a role is absent";
     case KEEPER_ALREADY_SO: return "it is already so";
     case KEEPER_NOT_SO: return "it is not so";
+    case KEEPER_THROUGH_JUNIOR: return "the role has the privilege through a junior";
     case KEEPER_ROLE_ASSIGNED: return "a seat has the role";
     case KEEPER_CIRCLE: return "the roles would lie in a circle";
     case KEEPER_STILL_INCLUDED: return "the junior would still be included in the senior";

@@ -70,6 +70,7 @@ _TEXTS = {
     21: 'there is no role {place}',
     22: 'it is so already (place {place})',
     23: 'it is not so (place {place})',
+    31: 'role {place} has the privilege through a junior',
     24: 'seat {place} still has the role',
     25: 'role {place} would lie in a circle',
     26: 'role {place} would still hold all that the junior holds',

@@ -84,6 +84,8 @@ class Calls(Test):
         self.refuses(21, 9, got.assign, seat=5, role=9)
         self.refuses(22, 5, got.assign, seat=5, role=3)
         self.refuses(23, 4, got.unassign, seat=4, role=3)
+        self.refuses(23, 3, got.withdraw, privilege=9, role=3)
+        self.refuses(31, 3, got.withdraw, privilege=0, role=3)
         self.refuses(24, 5, got.remove_role, role=3)
         self.refuses(25, 3, got.add_edge, junior=3, senior=2)
         self.refuses(27, 9, got.add_by_place, role=9)

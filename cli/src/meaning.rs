@@ -152,12 +152,6 @@ fn already(keeper: &Keeper, call: &Call) -> String {
 /// Refusal 23: what is not so.
 fn not_so(keeper: &Keeper, call: &Call) -> String {
     match *call {
-        Call::Withdraw { privilege, role } if keeper.effective(role).has(privilege) => {
-            format!(
-                "privilege {privilege} is not direct in role {role}, which has it {}",
-                way_down(keeper, role, privilege)
-            )
-        }
         Call::Withdraw { privilege, role } => {
             format!("role {role} does not have privilege {privilege}")
         }
@@ -173,6 +167,17 @@ fn not_so(keeper: &Keeper, call: &Call) -> String {
         Call::Lift { first, second } => format!("no conflict of {first} and {second} is declared"),
         Call::Unassign { seat, role } => format!("seat {seat} does not have role {role}"),
         _ => "it is not so".to_string(),
+    }
+}
+
+/// Refusal 31: the junior through which the role has the privilege.
+fn through_junior(keeper: &Keeper, call: &Call, refusal: Refusal) -> String {
+    match *call {
+        Call::Withdraw { privilege, role } => format!(
+            "role {role} has privilege {privilege} through a junior, {}",
+            way_down(keeper, role, privilege)
+        ),
+        _ => refusal.to_string(),
     }
 }
 
@@ -248,6 +253,7 @@ pub fn meaning(keeper: &Keeper, record: &[u8], refusal: Refusal) -> String {
         Refusal::EndRole { role: MAX_ROLE } => "role 1 is MaxRole, which no call names".to_string(),
         Refusal::AlreadySo { .. } => already(keeper, &call),
         Refusal::NotSo { .. } => not_so(keeper, &call),
+        Refusal::ThroughJunior { .. } => through_junior(keeper, &call, refusal),
         Refusal::RoleAssigned { seat } => seated(keeper, &call, seat),
         Refusal::Circle { role } => circle(keeper, &call, role),
         Refusal::StillIncluded { senior } => format!(

@@ -227,7 +227,7 @@ static void every_refusal_has_a_text_of_its_own(void)
 {
     uint32_t n, m;
     for (n = 0; n < 300; n++) {
-        bool known = n <= 9 || (20 <= n && n <= 30) || n == KEEPER_NUMBER((uint32_t)KEEPER_NO_STATE);
+        bool known = n <= 9 || (20 <= n && n <= 31) || n == KEEPER_NUMBER((uint32_t)KEEPER_NO_STATE);
         CHECK((strcmp(keeper_refusal_text(n), "no refusal has this number") != 0) == known);
         for (m = 0; known && m < n; m++) {
             CHECK(strcmp(keeper_refusal_text(n), keeper_refusal_text(m)) != 0);

@@ -103,6 +103,7 @@ static void kinds_4_and_5_grant_and_withdraw(void)
     CHECK(take(keeper_record_withdraw(2, 63)) == 0);
     CHECK(effective(2) == 1 && effective(4) == 7);
     CHECK(take(keeper_record_withdraw(2, 63)) == 256 * KEEPER_NOT_SO + 2);
+    CHECK(take(keeper_record_withdraw(4, 0)) == 256 * KEEPER_THROUGH_JUNIOR + 4 && effective(4) == 7);
 }
 
 static void kinds_6_and_7_add_and_remove_an_edge(void)

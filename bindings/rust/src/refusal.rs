@@ -34,6 +34,8 @@ pub enum Refusal {
     AlreadySo { place: u8 },
     /// 23: it is not so.
     NotSo { place: u8 },
+    /// 31: the role has the privilege to be withdrawn through a junior, and not directly.
+    ThroughJunior { role: u8 },
     /// 24: a seat has the role to be removed.
     RoleAssigned { seat: u8 },
     /// 25: the edges would run in a circle.
@@ -71,6 +73,7 @@ impl Refusal {
             21 => Refusal::RoleAbsent { role: place },
             22 => Refusal::AlreadySo { place },
             23 => Refusal::NotSo { place },
+            31 => Refusal::ThroughJunior { role: place },
             24 => Refusal::RoleAssigned { seat: place },
             25 => Refusal::Circle { role: place },
             26 => Refusal::StillIncluded { senior: place },
@@ -106,6 +109,7 @@ impl Refusal {
             Refusal::RoleAbsent { role } => (21, role),
             Refusal::AlreadySo { place } => (22, place),
             Refusal::NotSo { place } => (23, place),
+            Refusal::ThroughJunior { role } => (31, role),
             Refusal::RoleAssigned { seat } => (24, seat),
             Refusal::Circle { role } => (25, role),
             Refusal::StillIncluded { senior } => (26, senior),
@@ -130,7 +134,7 @@ impl Refusal {
 }
 
 /// What each number means, in plain words.
-const TEXTS: [(u8, &str); 20] = [
+const TEXTS: [(u8, &str); 21] = [
     (1, "not the 32 bytes of a call"),
     (2, "{place} is above 63"),
     (3, "role {place} is an end role, which no call names"),
@@ -147,6 +151,7 @@ const TEXTS: [(u8, &str); 20] = [
     (21, "there is no role {place}"),
     (22, "it is so already (place {place})"),
     (23, "it is not so (place {place})"),
+    (31, "role {place} has the privilege through a junior"),
     (24, "seat {place} still has the role"),
     (25, "role {place} would lie in a circle"),
     (

@@ -129,7 +129,7 @@ fn the_sample_is_answered() {
 #[test]
 fn every_refusal_has_its_number_place_and_words() {
     let mut words = Vec::new();
-    for number in (1..=9).chain(20..=30) {
+    for number in (1..=9).chain(20..=31) {
         let refusal = Refusal::of(number, 7);
         let place = if matches!(number, 1 | 6..=9) { 0 } else { 7 };
         assert_eq!(refusal.parts(), (number, place));
@@ -139,7 +139,7 @@ fn every_refusal_has_its_number_place_and_words() {
         assert!(!words.contains(&said), "{said}");
         words.push(said);
     }
-    assert_eq!(Refusal::of(31, 7).to_string(), "refused with 31, place 7");
+    assert_eq!(Refusal::of(99, 7).to_string(), "refused with 99, place 7");
     assert_eq!(
         Refusal::of_answer(256 * 29 + 2),
         Refusal::RoleConflict { role: 2 }
