@@ -313,10 +313,13 @@ impl Plain {
     fn withdraw(&mut self, a: u8, b: u8) -> Outcome {
         self.refuse_role_and_privilege(a, b)?;
         let own = self.sets[a as usize];
+        if !has(own, b) {
+            return refuse(23, a);
+        }
         let inherited =
             |role: usize| has(self.sets[role], b) && strictly_included(self.sets[role], own);
-        if !has(own, b) || Members(self.roles).any(inherited) {
-            return refuse(23, a);
+        if Members(self.roles).any(inherited) {
+            return refuse(31, a);
         }
         let mut drawing = self.draw();
         drawing.directs[a as usize] &= !(1 << b);

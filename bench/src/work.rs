@@ -166,8 +166,8 @@ pub fn largest() -> Plain {
 }
 
 /// The refusals that are timed, each with its kind: the last before drawing and one after closing, where the kind has
-/// both.
-pub const REFUSED: [(u8, u8); 19] = [
+/// both, and of kind 5 the last two before drawing.
+pub const REFUSED: [(u8, u8); 20] = [
     (1, 25),
     (1, 28),
     (2, 20),
@@ -176,6 +176,7 @@ pub const REFUSED: [(u8, u8); 19] = [
     (4, 22),
     (4, 30),
     (5, 23),
+    (5, 31),
     (5, 28),
     (6, 25),
     (6, 30),
