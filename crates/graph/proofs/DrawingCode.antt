@@ -1,17 +1,18 @@
 -- What the drawing code computes is what the definitions say: the order by a few tests, the roles below and above, the drawn edges and the direct sets.
 -- Assumes nothing.
 use mathlib.Core.Path.{_≡_, refl, sym, ap, ap₂, _∙_, subst}
-use mathlib.Core.Bool.{Bool, true, false, cond, not, _&&_, _||_, and-true, or-true, or-false, and-comm}
+use mathlib.Core.Bool.{Bool, true, false, cond, not, _&&_, _||_, and-true, and-false, or-true, or-false, and-comm}
 use mathlib.Core.Logic.{_≢_, _⊎_, inl, inr}
 use mathlib.Core.List.{List}
 use Prim.Native.Nat.{ℕ, _<_, _^_}
+use native.Mathlib.Decide.{ℕ-discrete}
 use native.Mathlib.Omega.{arith}
 use lib.Dec.{T, T-not, eqb, ltb, lt→ltb}
 use Rattle.sets.specs.Counting.{any, count, sum}
 use Rattle.sets.specs.Sets.{digit, member, single, union, difference, included, strictly-included, size, when, collect, gather}
 use Rattle.sets.proofs.Tests.{both, join, either, or-left, or-right, same-test, passes, fails, equal-test, test-equal, so}
-use Rattle.sets.proofs.Counting.{any-cong, count-cong, sum-cong}
-use Rattle.sets.proofs.Laws.{binary, member-lt, member-single, member-union, member-difference, member-collect, member-gather, member-empty, equal-members, extensional, difference-empty, difference-lt, collect-lt, included-member, gather-cong}
+use Rattle.sets.proofs.Counting.{any-some, some-any, any-cong, count-cong, sum-cong}
+use Rattle.sets.proofs.Laws.{binary, member-lt, member-single, member-union, member-difference, member-when, member-collect, member-gather, member-empty, equal-members, extensional, difference-empty, difference-lt, collect-lt, included-member, gather-cong}
 use Rattle.sets.proofs.Members.{in-empty, in-difference, difference-in, in-gather, gather-in, no-members}
 use Rattle.order.specs.Paths.{drawn}
 use Rattle.graph.specs.Tables.{at, table}
@@ -230,6 +231,37 @@ between-tests g r s =
     ap (λ (b : Bool). b && (below g r t && below g t s)) (ordinary-member g t)
     ∙ needless (ordinary g t) (below g r t && below g t s) (λ u. let (x, y) = both (below g r t) (below g t s) u in between-ordinary g r t s x y))
 
+-- An ordinary role lies below s by two tests.
+low-tests : (g : Graph) (r s : ℕ) → T (ordinary g r) → below g r s ≡ (ordinary g s || eqb s max-role) && (eqb s max-role || strictly-included (effective g r) (effective g s))
+low-tests g r s o =
+    below-tests g r s ∙ rw (passes (ordinary g r) o, fails (eqb r min-role) (not-end g r min-role (omega arith) o))
+
+regroup : (h o m w b : Bool) → (T o → b ≡ h && w) → (h && o) && (m && w) ≡ o && (m && b)
+regroup true false m w b e = refl
+regroup false false m w b e = refl
+regroup true true m w b e = ap (_&&_ m) (sym (e tt))
+regroup false true m w b e = sym (ap (_&&_ m) (e tt) ∙ and-false m)
+
+-- A search for one that has a privilege and lies below s makes them on the ordinary roles, where s can lie above another.
+module _ (g : Graph) (p s : ℕ) {all top : ℕ} (a : all ≡ when (member s (union (difference (g .roles) end-roles) max-alone)) (difference (g .roles) end-roles)) (t : top ≡ at (g .sets) s) where
+  abbrev strict : ℕ → Bool
+  strict r = eqb s max-role || strictly-included (at (g .sets) r) top
+
+  among : (r : ℕ) → member r all ≡ (ordinary g s || eqb s max-role) && member r (difference (g .roles) end-roles)
+  unfolding single
+  among r =
+      ap (member r) a ∙ member-when r _ (difference (g .roles) end-roles) ∙ ap (λ (b : Bool). b && member r (difference (g .roles) end-roles)) (member-with g max-role s)
+
+  pub lower-tests : any role-count (λ r. member r all && (member p (at (g .sets) r) && strict r))
+      ≡ any role-count (λ r. member r (difference (g .roles) end-roles) && (member p (at (g .sets) r) && below g r s))
+  unfolding effective
+  lower-tests =
+      any-cong role-count _ _
+      (λ r _.
+      ap (λ (b : Bool). b && (member p (at (g .sets) r) && strict r)) (among r)
+      ∙ regroup (ordinary g s || eqb s max-role) (member r (difference (g .roles) end-roles)) (member p (at (g .sets) r)) (strict r) (below g r s)
+      (λ o. rw t (low-tests g r s (subst T (ordinary-member g r) o))))
+
 -- ---- what immediate juniors have
 module _ (g : Graph) (h : g .roles < 2 ^ role-count) (s : ℕ) where
   -- The roles below s without MinRole.
@@ -256,9 +288,56 @@ module _ (g : Graph) (h : g .roles < 2 ^ role-count) (s : ℕ) where
       drawn-here r (inl d) = d
       drawn-here r (inr (t, b, d)) = absurd (in-empty t (subst (λ (i : ℕ). T (member t i)) z (in-lowers t (edge-below g t s d) (λ e. omega (arith, above-min g r t b)))))
 
-  -- Where some does, what the immediate juniors of s have is what the ordinary roles below it have.
-  pub inherited-ordinary : lowers ≢ 0 → gather role-count (λ r. member r lowers) (at (g .sets)) ≡ gather role-count (λ r. edge g r s) (at (g .sets))
+  -- What a role other than MinRole has, if it lies below s, some immediate junior of s has.
+  handed-up : (p r : ℕ) → T (below g r s) → r ≢ min-role → T (member p (at (g .sets) r)) → T (member p (gather role-count (λ r. edge g r s) (at (g .sets))))
   unfolding effective strictly-included
+  handed-up p r b d x =
+      let sets = at (g .sets) in
+      let q = low-ordinary g r s d b in
+      elim (below-junior g h r s b) [
+        | inl e ↦ gather-in p role-count (λ r. edge g r s) sets r (ordinary-lt g r h q) e x
+        | inr (t, c, e) ↦ (
+            let o = between-ordinary g r t s c (edge-below g t s e) in
+            let i = path-iff-included g h r t q o .0 (path-iff-below g h r t .1 c) in
+            gather-in p role-count (λ r. edge g r s) sets t (ordinary-lt g t h o) e
+            (included-member _ _ (both (included (sets r) (sets t)) (not (eqb (sets r) (sets t))) i .0) p x))
+      ]
+
+  -- So an immediate junior has the privilege where an ordinary role below s has it, or MinRole is such a junior and has it.
+  pub inherited-tests : (p : ℕ) → member p (gather role-count (λ r. edge g r s) (at (g .sets)))
+      ≡ any role-count (λ r. member r (difference (g .roles) end-roles) && (member p (at (g .sets) r) && below g r s)) || (member p (at (g .sets) min-role) && edge g min-role s)
+  inherited-tests p = same-test _ _ there back
+    where
+      sets : ℕ → ℕ
+      sets = at (g .sets)
+
+      lower-has : ℕ → Bool
+      lower-has r = member r (difference (g .roles) end-roles) && (member p (sets r) && below g r s)
+
+      there : T (member p (gather role-count (λ r. edge g r s) sets)) → T (any role-count lower-has || (member p (sets min-role) && edge g min-role s))
+      there u =
+          let (r, l, e, x) = in-gather p role-count (λ r. edge g r s) sets u in
+          elim (ℕ-discrete r min-role) [
+            | yes z ↦ or-right (any role-count lower-has) _ (subst (λ (i : ℕ). T (member p (sets i) && edge g i s)) z (join (member p (sets r)) (edge g r s) x e))
+            | no d ↦ (
+                let b = edge-below g r s e in
+                or-left (any role-count lower-has) _ (some-any role-count lower-has r l
+                (join (member r (difference (g .roles) end-roles)) _ (subst T (sym (ordinary-member g r)) (low-ordinary g r s d b)) (join (member p (sets r)) (below g r s) x b))))
+          ]
+
+      back : T (any role-count lower-has || (member p (sets min-role) && edge g min-role s)) → T (member p (gather role-count (λ r. edge g r s) sets))
+      back u =
+          elim (either (any role-count lower-has) (member p (sets min-role) && edge g min-role s) u) [
+            | inl t ↦ (
+                let (r, l, y) = any-some role-count lower-has t in
+                let (o, z) = both (member r (difference (g .roles) end-roles)) (member p (sets r) && below g r s) y in
+                let (x, b) = both (member p (sets r)) (below g r s) z in
+                handed-up p r b (λ e. omega (arith, ordinary-parts g r (subst T (ordinary-member g r) o) .0)) x)
+            | inr t ↦ (let (x, e) = both (member p (sets min-role)) (edge g min-role s) t in gather-in p role-count (λ r. edge g r s) sets min-role (omega arith) e x)
+          ]
+
+  -- Where an ordinary role lies below s, what the immediate juniors of s have is what the ordinary roles below it have.
+  pub inherited-ordinary : lowers ≢ 0 → gather role-count (λ r. member r lowers) (at (g .sets)) ≡ gather role-count (λ r. edge g r s) (at (g .sets))
   inherited-ordinary some = equal-members _ _ (λ p. same-test _ _ (there p) (back p))
     where
       sets : ℕ → ℕ
@@ -266,16 +345,9 @@ module _ (g : Graph) (h : g .roles < 2 ^ role-count) (s : ℕ) where
 
       there : (p : ℕ) → T (member p (gather role-count (λ r. member r lowers) sets)) → T (member p (gather role-count (λ r. edge g r s) sets))
       there p u =
-          let (r, l, m, x) = in-gather p role-count (λ r. member r lowers) sets u in
+          let (r, _, m, x) = in-gather p role-count (λ r. member r lowers) sets u in
           let (b, d) = lowers-in r m in
-          elim (below-junior g h r s b) [
-            | inl e ↦ gather-in p role-count (λ r. edge g r s) sets r l e x
-            | inr (t, c, e) ↦ (
-                let o = between-ordinary g r t s c (edge-below g t s e) in
-                let i = path-iff-included g h r t (low-ordinary g r s d b) o .0 (path-iff-below g h r t .1 c) in
-                gather-in p role-count (λ r. edge g r s) sets t (ordinary-lt g t h o) e
-                (included-member _ _ (both (included (sets r) (sets t)) (not (eqb (sets r) (sets t))) i .0) p x))
-          ]
+          handed-up p r b d x
 
       -- An immediate junior of s is not MinRole.
       not-least : (r : ℕ) → T (edge g r s) → r ≢ min-role

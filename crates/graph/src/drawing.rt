@@ -244,12 +244,37 @@ pub fn direct_of(roles: u64, sets: &[u64], s: Role) -> PrivilegeSet
     privileges::difference(effective_of(sets, s), held)
 }
 
-// Whether the privilege is direct in s; what s does not hold is not, whatever its juniors have.
+// Whether some ordinary role below s has the privilege.
+fn lower_has(roles: u64, sets: &[u64], s: usize, privilege: Privilege) -> bool
+    ensures { λ v. ⌜ v ≡ any role-count (λ r. member r (difference roles end-roles) && (member (privilege .0) (at (sets-in (now (sets .entry))) r) && below (drawn-from roles (now (sets .entry))) r s)) ⌝ }
+{
+    let top = entry(sets, s);
+    let mut rest = sets::when(sets::member(s, senior_roles(roles)), ordinary_roles(roles));
+    while rest != 0 {
+        let r = sets::lowest_member(rest) as usize;
+        let held = entry(sets, r);
+        if privileges::member(privilege, held)
+            && ((s == 1) | privileges::strictly_included(held, top))
+        {
+            return true;
+        }
+        rest = sets::without_lowest(rest);
+    }
+    false
+}
+
+// Whether the privilege is direct in s: s holds it and no ordinary role below s does; what MinRole has is inherited where MinRole is an immediate junior.
 pub(crate) fn is_direct(roles: u64, sets: &[u64], s: Role, privilege: Privilege) -> bool
     ensures { λ v. ⌜ v ≡ member (privilege .0) (direct (drawn-from roles (now (sets .entry))) (s .0)) ⌝ }
 {
     if !privileges::member(privilege, effective_of(sets, s)) {
         return false;
+    }
+    if lower_has(roles, sets, s.0 as usize, privilege) {
+        return false;
+    }
+    if !privileges::member(privilege, entry(sets, 0)) {
+        return true;
     }
     !privileges::member(privilege, inherited(roles, sets, s.0 as usize))
 }
