@@ -1,3 +1,4 @@
 pub mod Bench
 pub mod Tape
 pub mod Seats
+pub mod Withdrawals

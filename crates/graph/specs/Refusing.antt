@@ -1,4 +1,4 @@
--- Document 01, "Refusals that come from the input" and "Refusals that come from the state": for each call one list of checks in the order of refusals, the first that holds refuses.
+-- Document 01, "Refusals that come from the input" and "Refusals that come from the state", and document 02, Item 1: for each call one list of checks in the order of refusals, the first that holds refuses.
 use mathlib.Core.Bool.{Bool, false, cond, not, _&&_, _||_}
 use mathlib.Core.Path.{_≡_}
 use mathlib.Core.Logic.{_⊎_}
