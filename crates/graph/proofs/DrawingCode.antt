@@ -236,13 +236,14 @@ low-tests : (g : Graph) (r s : ℕ) → T (ordinary g r) → below g r s ≡ (or
 low-tests g r s o =
     below-tests g r s ∙ rw (passes (ordinary g r) o, fails (eqb r min-role) (not-end g r min-role (omega arith) o))
 
+-- A test of s alone may come first.
 regroup : (h o m w b : Bool) → (T o → b ≡ h && w) → (h && o) && (m && w) ≡ o && (m && b)
 regroup true false m w b e = refl
 regroup false false m w b e = refl
 regroup true true m w b e = ap (_&&_ m) (sym (e tt))
 regroup false true m w b e = sym (ap (_&&_ m) (e tt) ∙ and-false m)
 
--- A search for one that has a privilege and lies below s makes them on the ordinary roles, where s can lie above another.
+-- The search for an ordinary role that has a privilege and lies below s, by these tests: among all of them where s can lie above another, and else among none.
 module _ (g : Graph) (p s : ℕ) {all top : ℕ} (a : all ≡ when (member s (union (difference (g .roles) end-roles) max-alone)) (difference (g .roles) end-roles)) (t : top ≡ at (g .sets) s) where
   abbrev strict : ℕ → Bool
   strict r = eqb s max-role || strictly-included (at (g .sets) r) top
@@ -288,10 +289,10 @@ module _ (g : Graph) (h : g .roles < 2 ^ role-count) (s : ℕ) where
       drawn-here r (inl d) = d
       drawn-here r (inr (t, b, d)) = absurd (in-empty t (subst (λ (i : ℕ). T (member t i)) z (in-lowers t (edge-below g t s d) (λ e. omega (arith, above-min g r t b)))))
 
-  -- What a role other than MinRole has, if it lies below s, some immediate junior of s has.
-  handed-up : (p r : ℕ) → T (below g r s) → r ≢ min-role → T (member p (at (g .sets) r)) → T (member p (gather role-count (λ r. edge g r s) (at (g .sets))))
+  -- What a role other than MinRole that lies below s has, some immediate junior of s has.
+  junior-has : (p r : ℕ) → T (below g r s) → r ≢ min-role → T (member p (at (g .sets) r)) → T (member p (gather role-count (λ r. edge g r s) (at (g .sets))))
   unfolding effective strictly-included
-  handed-up p r b d x =
+  junior-has p r b d x =
       let sets = at (g .sets) in
       let q = low-ordinary g r s d b in
       elim (below-junior g h r s b) [
@@ -332,7 +333,7 @@ module _ (g : Graph) (h : g .roles < 2 ^ role-count) (s : ℕ) where
                 let (r, l, y) = any-some role-count lower-has t in
                 let (o, z) = both (member r (difference (g .roles) end-roles)) (member p (sets r) && below g r s) y in
                 let (x, b) = both (member p (sets r)) (below g r s) z in
-                handed-up p r b (λ e. omega (arith, ordinary-parts g r (subst T (ordinary-member g r) o) .0)) x)
+                junior-has p r b (λ e. omega (arith, ordinary-parts g r (subst T (ordinary-member g r) o) .0)) x)
             | inr t ↦ (let (x, e) = both (member p (sets min-role)) (edge g min-role s) t in gather-in p role-count (λ r. edge g r s) sets min-role (omega arith) e x)
           ]
 
@@ -347,7 +348,7 @@ module _ (g : Graph) (h : g .roles < 2 ^ role-count) (s : ℕ) where
       there p u =
           let (r, _, m, x) = in-gather p role-count (λ r. member r lowers) sets u in
           let (b, d) = lowers-in r m in
-          handed-up p r b d x
+          junior-has p r b d x
 
       -- An immediate junior of s is not MinRole.
       not-least : (r : ℕ) → T (edge g r s) → r ≢ min-role
