@@ -43,7 +43,7 @@ fn carry_out(roles: u64, sets: &[u64], change: Change) -> Attempt
     }
 }
 
-// Refusals 2 to 5 and 20 to 25 but for 24; where none comes, the roles and sets after the change, and otherwise the roles at hand and no sets.
+// Refusals 2 to 5, 20 to 25 but for 24, and 31; where none comes, the roles and sets after the change, and otherwise the roles at hand and no sets.
 pub fn attempt(roles: u64, sets: &[u64], change: Change) -> Attempt
     ensures { λ r. let g = drawn-from roles (now (sets .entry)) in let c = read-change change in ⌜ (read-verdict (r .verdict), drawn-from (r .roles) (r .sets)) ≡ keep (early g c) (drawn-from roles no-sets) (changed g c) ⌝ }
 {

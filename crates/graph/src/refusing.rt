@@ -1,4 +1,4 @@
-// What refuses a change, in the order of the numbers: 2 to 5 and 20 to 25 before closing, 26 to 29 after it. Refusals 24 and 30 concern seats and are not here.
+// What refuses a change, in the order of refusals: 2 to 5, 20 to 25 and 31 before closing, 26 to 29 after it. Refusals 24 and 30 concern seats and are not here.
 ghost use mathlib.Core.Path.{_≡_};
 ghost use mathlib.Core.Bool.{_||_};
 ghost use mathlib.Core.List.{[], _∷_, _++_};
