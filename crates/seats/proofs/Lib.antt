@@ -2,6 +2,7 @@
 pub mod JudgedCalls
 pub mod Settling
 pub mod Decoding
+pub mod RecordBytes
 pub mod Requests
 pub mod Changing
 pub mod Scanning

@@ -6,8 +6,8 @@ use Prim.Native.Nat.{ℕ, zero, suc, _+_, _-_, _%_, _≤_, _<_}
 use native.Mathlib.Nat.{not-suc-le-zero, add-zero, zero-add}
 use native.Mathlib.Omega.{arith}
 use lib.ListN.{length, take, drop, length-append, length-drop}
-use lib.Seq.{take-append-le, drop-append-le}
-use Rattle.lists.specs.Runs.{run}
+use lib.Seq.{take-append-le, drop-append-le, take-at, drop-at}
+use Rattle.lists.specs.Runs.{run, Each}
 use Rattle.lists.proofs.Runs.{run-append, answers-length}
 use Rattle.graph.specs.Drawing.{edge-count}
 use Rattle.seats.specs.Seats.{State, fresh}
@@ -84,6 +84,16 @@ records-append p q =
         ∙ ap₂ (λ (r u : List ℕ). r ∷ records u) (take-append-le record-length t q w) (drop-append-le record-length t q w)
         ∙ ap (λ (r : List (List ℕ)). take record-length t ∷ r) (ih (omega arith))
         ∙ sym (ap (λ (r : List (List ℕ)). r ++ records q) (records-first t h))
+
+-- The records of a tape that whole records make are these.
+pub joined-records : (l : List (List ℕ)) → Each (λ r. length r ≡ record-length) l → records (joined l) ≡ l
+unfolding joined Each
+joined-records [] h = records-none [] refl
+joined-records (r ∷ l) h =
+    let e = h .0 in
+    records-first (r ++ joined l) (omega (arith, length-append r (joined l)))
+    ∙ ap₂ (λ (x t : List ℕ). x ∷ records t) (take-at r (joined l) record-length e) (drop-at r (joined l) record-length e)
+    ∙ ap (λ (t : List (List ℕ)). r ∷ t) (joined-records l (h .1))
 
 -- ---- answers and lines
 module _ (s : State) where

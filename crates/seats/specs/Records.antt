@@ -1,12 +1,12 @@
 -- Document 01, "The twelve calls" and refusal 1: a record of 32 bytes and the call that it carries.
 use mathlib.Core.Bool.{Bool, true, cond, _&&_}
-use mathlib.Core.List.{List, [], _∷_}
+use mathlib.Core.List.{List, [], _∷_, _++_}
 use Prim.Native.Nat.{ℕ}
 use lib.ListN.{getD, length, drop}
 use lib.Dec.{leb, eqb}
 use Rattle.sets.specs.Sets.{empty}
 use Rattle.graph.specs.Editing.{add-by-place, add-by-privileges, remove-role, grant, withdraw, add-edge, remove-edge}
-use Rattle.seats.specs.Bytes.{number-at}
+use Rattle.seats.specs.Bytes.{bytes-of, number-at}
 use Rattle.seats.specs.Seats.{State}
 use Rattle.seats.specs.Calls.{Call, change, declare, lift, assign, unassign, ask, Answer, refused, perform}
 
@@ -29,6 +29,10 @@ pub record Fields : Type 0 where
 
 unfoldable pub fields : List ℕ → Fields
 fields l = record { a = getD l 1 0; b = getD l 2 0; x = number-at 8 8 l; y = number-at 8 16 l; z = number-at 8 24 l }
+
+-- The bytes of the record of a kind with these fields.
+unfoldable pub record-of : ℕ → Fields → List ℕ
+record-of k f = k ∷ f .a ∷ f .b ∷ (bytes-of 5 0 ++ (bytes-of 8 (f .x) ++ (bytes-of 8 (f .y) ++ bytes-of 8 (f .z))))
 
 -- Every set of the list is empty.
 unfoldable pub all-empty : List ℕ → Bool

@@ -1,4 +1,4 @@
-// Records of 32 bytes: what any bytes decode to.
+// Records of 32 bytes: what any bytes decode to, and the record of a call of kind 2.
 ghost use mathlib.Core.Path.{_≡_};
 ghost use mathlib.Core.Bool.{cond, _&&_};
 ghost use mathlib.Core.List.{[], _∷_};
@@ -6,13 +6,14 @@ ghost use Prim.Native.Nat.{_≤_, min};
 ghost use lib.ListN.{length, getD};
 ghost use lib.Dec.{leb};
 ghost use Rattle.graph.specs.Reading.{read-set, read-removal, read-change};
-ghost use Rattle.seats.specs.Bytes.{number-at};
+ghost use Rattle.seats.specs.Bytes.{number-at, fill};
 ghost use Rattle.seats.specs.Calls.{change};
-ghost use Rattle.seats.specs.Records.{malformed, well-formed, all-empty, kinds, decode};
-ghost use Rattle.seats.specs.Reading.{read-call, read-request, read-decoded};
+ghost use Rattle.seats.specs.Records.{malformed, well-formed, record-of, all-empty, kinds, decode};
+ghost use Rattle.seats.specs.Reading.{read-call, read-request, read-decoded, read-filled};
 ghost use Rattle.seats.specs.Working.{fields-of};
 use crate::Call;
 use crate::Decoded;
+use crate::Filled;
 use crate::Request;
 use crate::Seat;
 use crate::Step;
@@ -20,6 +21,10 @@ use crate::endian::quad;
 use crate::endian::set_at;
 use crate::endian::wide;
 use crate::endian::word;
+use crate::writing::put_byte;
+use crate::writing::put_number;
+use crate::writing::put_set;
+use crate::writing::too_short;
 use graph::Change;
 use graph::Privilege;
 use graph::PrivilegeSet;
@@ -135,4 +140,18 @@ pub fn decode(bytes: &[u8]) -> Decoded
         word(bytes, 16),
         word(bytes, 24),
     )
+}
+
+// The record that adds a role by its privileges, kind 2, at the buffer's front; or refusal 9 where the buffer is shorter.
+pub fn write_add_by_privileges(buffer: &mut [u8], role: Role, own: PrivilegeSet) -> Filled
+    ensures { λ r. ⌜ (read-filled r, now (buffer .exit)) ≡ fill 9 (record-of 2 (fields-of (role .0) 0 (read-set own) 0 0)) (now (buffer .entry)) ⌝ }
+{
+    if buffer.len() < RECORD {
+        return too_short(9);
+    }
+    let role_at = put_byte(buffer, 0, 2);
+    let b_at = put_byte(buffer, role_at, role.0);
+    let set_at = put_number(buffer, b_at, 6, 0);
+    let juniors_at = put_set(buffer, set_at, own);
+    Filled::Written(put_number(buffer, juniors_at, 16, 0))
 }
