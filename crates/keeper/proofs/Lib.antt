@@ -9,3 +9,5 @@ pub mod SaveCode
 pub mod Asking
 -- ---- the demands on blocks
 pub mod BlockLists
+-- ---- the demands on importing
+pub mod ImportNumber

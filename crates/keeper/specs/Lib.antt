@@ -1,3 +1,4 @@
 pub mod Block
 pub mod Exports
 pub mod BlockLists
+pub mod Imports

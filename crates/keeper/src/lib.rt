@@ -4,4 +4,5 @@ mod block;
 mod calls;
 mod codes;
 mod images;
+mod imports;
 mod queries;

@@ -1,0 +1,16 @@
+pub mod ReadResults
+pub mod Productions
+pub mod DigitFields
+pub mod NumberReading
+pub mod RowReading
+pub mod HeadingReading
+pub mod SheetReading
+pub mod Spelling
+pub mod FieldLaws
+pub mod ColumnLaws
+pub mod LineLaws
+pub mod RowLaws
+pub mod ImportLaws
+pub mod Outcomes
+pub mod TapeMeaning
+pub mod Demands
