@@ -1,7 +1,9 @@
-//! The proved keeper, by its Rust wrapper, as the driver of `tests/reference` compares it.
+//! The proved keeper and importer, by their Rust wrapper, as the drivers of `tests/reference` compare them.
 
-use keeper::{Answer, Keeper, Refusal};
+use keeper::{import_into, Answer, Keeper, Refusal};
 use role_reference::compare::Keeper as Compared;
+use role_reference::compare_sheets::Imported;
+use role_reference::sheets::Refused;
 
 /// The proved keeper's state.
 #[derive(Clone, PartialEq, Eq, Debug)]
@@ -75,4 +77,12 @@ impl Compared for Kept {
             Err(refusal) => (refusal.number(), 0),
         }
     }
+}
+
+/// The proved importer.
+pub fn import(text: &[u8], tape: &mut [u8]) -> Imported {
+    import_into(text, tape).map_err(|refusal| Refused {
+        number: refusal.number(),
+        place: refusal.place() as usize,
+    })
 }

@@ -1,6 +1,6 @@
 //! The C header, the wrapper's declarations and the Rattle source declare the same functions.
 
-use keeper::{block, Call, Refusal, RECORD_LENGTH};
+use keeper::{block, Call, Refusal, SheetRefusal, RECORD_LENGTH};
 use std::collections::BTreeMap;
 use std::fs;
 use std::path::Path;
@@ -93,7 +93,12 @@ fn declared(path: &str) -> Functions {
 /// A Rattle parameter as C has it: a slice is a pointer and a length.
 fn lowered(text: &str) -> Vec<(String, String)> {
     let (name, of) = text.split_once(": ").expect("a name and a type");
-    let length = if name == "block" { "words" } else { "length" };
+    let length = match name {
+        "block" => "words",
+        "text" => "text_length",
+        "tape" => "tape_length",
+        _ => "length",
+    };
     let slice = |pointer: &str, of: &str| {
         let element = of.trim_end_matches(']');
         vec![
@@ -144,7 +149,7 @@ fn the_header_declares_what_the_benchmark_calls() {
 #[test]
 fn the_header_declares_what_the_source_exports() {
     let (header, source) = (header(), source());
-    assert_eq!(header.len(), 17);
+    assert_eq!(header.len(), 18);
     assert_eq!(header, source);
 }
 
@@ -158,10 +163,12 @@ fn the_header_has_the_wrappers_constants() {
         ("KEEPER_NO_STATE", block::NO_STATE.into()),
         ("KEEPER_NOT_SAVED", block::NOT_SAVED.into()),
     ];
+    let defined = |line: String| assert!(text.lines().any(|found| found == line), "{line}");
     for (name, value) in constants {
-        let line = format!("#define {name} {value}");
-        assert!(text.lines().any(|found| found == line), "{line}");
+        defined(format!("#define {name} {value}"));
     }
+    let wide = block::NOT_IMPORTED;
+    defined(format!("#define KEEPER_NOT_IMPORTED UINT64_C({wide})"));
 }
 
 #[test]
@@ -212,9 +219,15 @@ fn of_variant(variant: &dyn std::fmt::Debug) -> String {
 #[test]
 fn the_header_names_the_wrappers_refusals() {
     let header = named("keeper_refusal");
-    assert_eq!(header.len(), 21);
+    assert_eq!(header.len(), 23);
+    let importing = [SheetRefusal::BadSheet { row: 1 }, SheetRefusal::ShortTape];
     for (name, number) in header {
-        assert_eq!(of_variant(&Refusal::of(number, 0)), name);
+        let own = importing.iter().find(|refusal| refusal.number() == number);
+        let spelled = match own {
+            Some(refusal) => of_variant(refusal),
+            None => of_variant(&Refusal::of(number, 0)),
+        };
+        assert_eq!(spelled, name);
     }
 }
 

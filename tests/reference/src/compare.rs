@@ -508,7 +508,7 @@ thread_local! {
 }
 
 /// Does the work without the messages of panics on this thread.
-fn quietly<T>(work: impl FnOnce() -> T) -> T {
+pub(crate) fn quietly<T>(work: impl FnOnce() -> T) -> T {
     static HOOK: Once = Once::new();
     HOOK.call_once(|| {
         let usual = take_hook();

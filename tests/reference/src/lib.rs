@@ -1,7 +1,11 @@
-//! A second implementation of the role keeper of document 01 and of item 1 of
-//! document 02, and a driver that compares any other keeper with it.
+//! A second implementation of the role keeper of document 01 and of items 1
+//! and 2 of document 02, and drivers that compare any other keeper and
+//! importer with it.
 
 pub mod compare;
+pub mod compare_sheets;
 pub mod generate;
+pub mod generate_sheets;
 pub mod random;
 pub mod reference;
+pub mod sheets;

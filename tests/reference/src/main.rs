@@ -1,10 +1,11 @@
-//! `run [calls] [images]` drives the reference against itself; `tape` prints
-//! what benchtape prints for the tape on standard input. The environment's
-//! `SEED` sets the seed of a run.
+//! `run [calls] [images]` drives the reference against itself, and
+//! `sheets [texts]` its importer; `tape` prints what benchtape prints for the
+//! tape on standard input. The environment's `SEED` sets the seed of a run.
 
-use role_reference::compare::run_and_print;
 use role_reference::random::printed_seed;
 use role_reference::reference::Reference;
+use role_reference::sheets::import;
+use role_reference::{compare, compare_sheets};
 use std::io::Read;
 use std::process::ExitCode;
 
@@ -12,13 +13,22 @@ fn count(argument: Option<String>, default: usize) -> usize {
     argument.map_or(default, |text| text.parse().expect("a count"))
 }
 
-fn run(calls: usize, images: usize) -> ExitCode {
-    let seed = printed_seed();
-    if run_and_print::<Reference>(seed, calls, images) {
+fn exit_code(agrees: bool) -> ExitCode {
+    if agrees {
         ExitCode::SUCCESS
     } else {
         ExitCode::FAILURE
     }
+}
+
+fn run(calls: usize, images: usize) -> ExitCode {
+    let seed = printed_seed();
+    exit_code(compare::run_and_print::<Reference>(seed, calls, images))
+}
+
+fn sheets(texts: usize) -> ExitCode {
+    let seed = printed_seed();
+    exit_code(compare_sheets::run_and_print(seed, texts, &import))
 }
 
 fn tape() -> ExitCode {
@@ -38,9 +48,10 @@ fn main() -> ExitCode {
             let images = count(arguments.next(), 50_000);
             run(calls, images)
         }
+        Some("sheets") => sheets(count(arguments.next(), 50_000)),
         Some("tape") => tape(),
         _ => {
-            eprintln!("run [calls] [images] | tape");
+            eprintln!("run [calls] [images] | sheets [texts] | tape");
             ExitCode::FAILURE
         }
     }
