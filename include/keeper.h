@@ -74,7 +74,7 @@ extern "C" {
  * An answer is 0 for accepted, 1 or 0 for an ask's yes or no, or 256 times a refusal's number plus its place. So
  * `if (keeper_ask(..))` is a mistake: a refusal is not 0 either. Ask keeper_may, or compare with 1.
  * What keeper_save and keeper_image_length give is a length where it is below KEEPER_NOT_SAVED, and otherwise
- * KEEPER_NOT_SAVED plus an answer, which is no image's length.
+ * KEEPER_NOT_SAVED plus an answer, which is no image's length. What keeper_import gives stands under "sheets" below.
  */
 
 /* The answer for a block of fewer than KEEPER_WORDS words. */
@@ -94,7 +94,7 @@ extern "C" {
 #define KEEPER_PLACE(answer) ((answer) % 256u)
 
 /* The refusals, in their order: among several the first one here is the answer; all of them leave block and
- * buffer untouched.
+ * buffer untouched. 32 and 33 are importing's own, 32 before 33, and no other function gives them.
  * "First" means a, then b, then the juniors, then the seniors, a set read from bit 0. */
 enum keeper_refusal {
     /* Not 32 bytes, a kind outside 1 to 12, a non-zero unused field, b above 1 in kind 3. Place 0. */
@@ -138,7 +138,11 @@ enum keeper_refusal {
     /* A role other than MaxRole would hold a declared pair. Place: the lowest such role. */
     KEEPER_ROLE_CONFLICT = 29,
     /* A seat would hold a declared pair. Place: the lowest such seat. */
-    KEEPER_SEAT_CONFLICT = 30
+    KEEPER_SEAT_CONFLICT = 30,
+    /* A text that is no sheet, or a number in it that is out of range. Place: the first such row, the heading being 1. */
+    KEEPER_BAD_SHEET = 32,
+    /* The buffer is shorter than the tape. Place 0. */
+    KEEPER_SHORT_TAPE = 33
 };
 
 /* Gives a refusal's text by its number, for a person to read; for any other number a text too. */
@@ -167,6 +171,8 @@ static inline const char *keeper_refusal_text(uint32_t number)
     case KEEPER_EQUAL_ROLES: return "two roles would be equal";
     case KEEPER_ROLE_CONFLICT: return "a role would hold privileges in conflict";
     case KEEPER_SEAT_CONFLICT: return "a seat would hold privileges in conflict";
+    case KEEPER_BAD_SHEET: return "a row is not one of a sheet, or has a number out of range";
+    case KEEPER_SHORT_TAPE: return "the buffer is shorter than the tape";
     case KEEPER_NO_STATE / 256: return "the block is too short for a state";
     default: return "no refusal has this number";
     }
@@ -204,6 +210,43 @@ KEEPER_HEED uint32_t keeper_load(uint64_t *block, size_t words, const uint8_t *b
 /* Gives the length of the image that ends the bytes, so that it starts so many bytes before their end. Where loading would
  * refuse them gives KEEPER_NOT_SAVED plus that refusal. */
 KEEPER_HEED uint32_t keeper_image_length(const uint8_t *bytes, size_t length);
+
+/* ---- sheets ----
+ *
+ * A sheet is RFC 4180 text: a heading of an empty field and then privilege numbers, strictly ascending, and rows of a role
+ * number and then 0 or 1 for each privilege of the heading. Numbers are 0 to 63 in base ten without leading zeros; a field
+ * may stand between quotes; CR LF alone ends a line, and may be missing at the end. docs/REFERENCE.md says it whole.
+ *
+ *     uint8_t *tape = malloc(KEEPER_TAPE_ROOM(length));
+ *     uint64_t at, given = keeper_import(text, length, tape, KEEPER_TAPE_ROOM(length));
+ *     if (!KEEPER_IS_TAPE(given)) { .. row KEEPER_ROW(given) is wrong .. }
+ *     else for (at = 0; at < given; at += KEEPER_RECORD) { .. keeper_call(block, KEEPER_WORDS, tape + at, KEEPER_RECORD) .. }
+ *
+ * What keeper_import gives is the tape's length where it is below KEEPER_NOT_IMPORTED, and otherwise KEEPER_NOT_IMPORTED
+ * plus a place: a row from 1 on, wide as the text is long, for a refusal with 32, and 0 for one with 33. It is no answer:
+ * KEEPER_REFUSED, KEEPER_NUMBER and KEEPER_PLACE are not for it.
+ */
+
+/* What is added to the place where there is no tape: 2 to the 63. */
+#define KEEPER_NOT_IMPORTED UINT64_C(9223372036854775808)
+
+/* Whether what was given is the length of a tape. */
+#define KEEPER_IS_TAPE(given) ((given) < KEEPER_NOT_IMPORTED)
+
+/* The refusal's number, KEEPER_BAD_SHEET or KEEPER_SHORT_TAPE, and its place, the row or 0, of what is no such length. */
+#define KEEPER_IMPORT_NUMBER(given) ((uint32_t)((given) == KEEPER_NOT_IMPORTED ? KEEPER_SHORT_TAPE : KEEPER_BAD_SHEET))
+#define KEEPER_ROW(given) ((given) % KEEPER_NOT_IMPORTED)
+
+/* How many bytes take the tape of every sheet of so many bytes: a row behind the heading has five at least, with the line
+ * end before it. It is 0 for fewer than five bytes, and a buffer of length 0 may be null. */
+#define KEEPER_TAPE_ROOM(length) ((size_t)(length) / 5 * KEEPER_RECORD)
+
+/* Writes the tape of a sheet to the buffer's front, a record of kind 2 for each row behind the heading, in row order;
+ * touches nothing behind it, and gives its length. Where there is none it touches nothing, and gives KEEPER_NOT_IMPORTED plus
+ * the first row that is wrong, 1 for empty text; or KEEPER_NOT_IMPORTED itself where the text is a sheet and its tape is
+ * longer than the buffer. No state is concerned: a record for role 0, or for a role named twice, is refused when it is
+ * given to keeper_call. */
+KEEPER_HEED uint64_t keeper_import(const uint8_t *text, size_t text_length, uint8_t *tape, size_t tape_length);
 
 /* ---- what a state shows ----
  *

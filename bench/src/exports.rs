@@ -2,7 +2,8 @@
 //!
 //! A slice is a pointer and a length in elements. A block is 193 words: the roles, then 64 words each for the sets, the
 //! conflicts and the seats. An answer is 0 for accepted and for an ask's no, 1 for an ask's yes, and 256 times the
-//! number plus the place for a refusal; saving answers with the length, or 65536 plus that.
+//! number plus the place for a refusal; saving answers with the length, or 65536 plus that. Importing has no block, and
+//! answers with the length, or 2 to the 63 plus the row, which is 0 for a tape without room.
 
 pub const WORDS: usize = 193;
 
@@ -15,4 +16,10 @@ extern "C" {
         -> u64;
     pub fn keeper_load(block: *mut u64, words: usize, bytes: *const u8, length: usize) -> u32;
     pub fn keeper_save(block: *const u64, words: usize, buffer: *mut u8, length: usize) -> u32;
+    pub fn keeper_import(
+        text: *const u8,
+        text_length: usize,
+        tape: *mut u8,
+        tape_length: usize,
+    ) -> u64;
 }

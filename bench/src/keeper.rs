@@ -1,8 +1,8 @@
 //! The proved keeper as a value: a block of words, and the exported functions on it.
 
 use crate::exports::{
-    keeper_ask, keeper_call, keeper_count_yes, keeper_fresh, keeper_load, keeper_may, keeper_save,
-    WORDS,
+    keeper_ask, keeper_call, keeper_count_yes, keeper_fresh, keeper_import, keeper_load,
+    keeper_may, keeper_save, WORDS,
 };
 use crate::side::Side;
 
@@ -46,5 +46,10 @@ impl Side for Kept {
     #[inline(always)]
     fn save(&self, buffer: &mut [u8]) -> u32 {
         unsafe { keeper_save(self.0.as_ptr(), WORDS, buffer.as_mut_ptr(), buffer.len()) }
+    }
+
+    #[inline(always)]
+    fn import(&self, text: &[u8], tape: &mut [u8]) -> u64 {
+        unsafe { keeper_import(text.as_ptr(), text.len(), tape.as_mut_ptr(), tape.len()) }
     }
 }

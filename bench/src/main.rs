@@ -5,9 +5,12 @@
 use bench::plain::{Plain, LARGEST_IMAGE, RECORD_LENGTH};
 use bench::side::{loaded, saved, Side};
 use bench::timing::{time_restored, time_steady, Timed};
-use bench::work::{answered, largest, middling, shape, tape, Shape, REFUSED, SPARE};
+use bench::work::{
+    answered, largest, middling, refused_sheet, shape, sheet, tape, Shape, REFUSED, SHEET_ROLES,
+    SPARE,
+};
 use role_reference::generate::short;
-use std::fmt::Display;
+use std::fmt::{Debug, Display};
 use std::fs::File;
 use std::hint::black_box;
 use std::io;
@@ -74,12 +77,12 @@ impl Table {
     }
 
     /// An operation that leaves the state as it is.
-    fn steady(
+    fn steady<A: PartialEq + Debug>(
         &mut self,
         name: &str,
         state: &Plain,
-        mut keeper: impl FnMut(&mut Keeper) -> u32,
-        mut plain: impl FnMut(&mut Plain) -> u32,
+        mut keeper: impl FnMut(&mut Keeper) -> A,
+        mut plain: impl FnMut(&mut Plain) -> A,
     ) {
         if self.wants(name) {
             let sides = both(name, state, &mut keeper, &mut plain);
@@ -117,11 +120,11 @@ fn given<S: Side>(record: &[u8]) -> impl FnMut(&mut S) -> u32 + '_ {
 }
 
 /// Both sides in the state. They give the same answer and leave the same image, or the run stops.
-fn both(
+fn both<A: PartialEq + Debug>(
     name: &str,
     state: &Plain,
-    keeper: &mut impl FnMut(&mut Keeper) -> u32,
-    plain: &mut impl FnMut(&mut Plain) -> u32,
+    keeper: &mut impl FnMut(&mut Keeper) -> A,
+    plain: &mut impl FnMut(&mut Plain) -> A,
 ) -> (Keeper, Plain) {
     let image = saved(state);
     let sides: (Keeper, Plain) = (loaded(&image), loaded(&image));
@@ -165,8 +168,8 @@ fn asks(table: &mut Table) {
         table.steady(
             name,
             &state,
-            |side| Side::may(side, black_box(seat), black_box(privilege)).into(),
-            |side| Side::may(side, black_box(seat), black_box(privilege)).into(),
+            |side| Side::may(side, black_box(seat), black_box(privilege)),
+            |side| Side::may(side, black_box(seat), black_box(privilege)),
         );
     }
 }
@@ -272,6 +275,25 @@ fn images(table: &mut Table) {
     }
 }
 
+fn sheets(table: &mut Table) {
+    table.title("sheets");
+    let state = Plain::fresh();
+    for (text, name) in [
+        (sheet(), "import a sheet of 62 roles by 64 columns"),
+        (refused_sheet(), "import: refused 32 at the last row"),
+    ] {
+        const TAPE: usize = SHEET_ROLES * RECORD_LENGTH;
+        let (mut first, mut second) = ([0; TAPE], [0; TAPE]);
+        table.steady(
+            name,
+            &state,
+            |side| Side::import(side, black_box(&text), black_box(&mut first[..])),
+            |side| Side::import(side, black_box(&text), black_box(&mut second[..])),
+        );
+        assert!(first == second, "{name}: tapes");
+    }
+}
+
 // ---- the tape, through the two programs
 
 fn program(path: &Path, tape: &Path) -> io::Result<Command> {
@@ -366,6 +388,7 @@ fn main() -> io::Result<()> {
     grants(&mut table);
     layers(&table);
     images(&mut table);
+    sheets(&mut table);
     programs(&mut table)?;
     println!("\n{} of {} rows above {MOST}", table.above, table.rows);
     Ok(())

@@ -727,3 +727,154 @@ impl Plain {
             && included(union_of(&self.sets, self.roles), max)
     }
 }
+
+// ---- sheets
+
+/// Why a text is not imported: its first row that is wrong, or a buffer that is shorter than its tape.
+#[derive(Clone, Copy, Debug, PartialEq, Eq)]
+pub enum NotImported {
+    BadSheet { row: usize },
+    ShortTape,
+}
+
+/// A text under way.
+struct Reader<'a> {
+    text: &'a [u8],
+    at: usize,
+}
+
+impl Reader<'_> {
+    fn is_done(&self) -> bool {
+        self.at == self.text.len()
+    }
+
+    fn peek(&self) -> Option<u8> {
+        self.text.get(self.at).copied()
+    }
+
+    /// Goes past this byte where it comes next.
+    fn passes(&mut self, byte: u8) -> bool {
+        if self.peek() != Some(byte) {
+            return false;
+        }
+        self.at += 1;
+        true
+    }
+
+    /// Goes past a line end where one comes next.
+    fn passes_line_end(&mut self) -> bool {
+        if !self.text[self.at..].starts_with(b"\r\n") {
+            return false;
+        }
+        self.at += 2;
+        true
+    }
+
+    fn digit(&mut self) -> Option<u8> {
+        let digit = self.peek()?.wrapping_sub(b'0');
+        if digit > 9 {
+            return None;
+        }
+        self.at += 1;
+        Some(digit)
+    }
+
+    /// A field's content, plain or between quotes.
+    fn field<T>(&mut self, content: impl FnOnce(&mut Self) -> Option<T>) -> Option<T> {
+        let quoted = self.passes(b'"');
+        let found = content(self)?;
+        if quoted && !self.passes(b'"') {
+            return None;
+        }
+        Some(found)
+    }
+
+    /// A number from 0 to 63 without leading zeros.
+    fn number(&mut self) -> Option<u8> {
+        self.field(|reader| {
+            let first = reader.digit()?;
+            match reader.digit() {
+                None => Some(first),
+                Some(second) if (1..=6).contains(&first) => {
+                    Some(10 * first + second).filter(|number| *number < 64)
+                }
+                Some(_) => None,
+            }
+        })
+    }
+
+    fn mark(&mut self) -> Option<u64> {
+        self.field(|reader| reader.digit().filter(|mark| *mark <= 1).map(u64::from))
+    }
+
+    /// The privileges of the heading. They strictly ascend, so the set has their order.
+    fn heading(&mut self) -> Option<u64> {
+        self.field(|_| Some(()))?;
+        let mut privileges = 0;
+        while self.passes(b',') {
+            let privilege = self.number()?;
+            if privileges >> privilege != 0 {
+                return None;
+            }
+            privileges |= 1 << privilege;
+        }
+        if privileges == 0 {
+            return None;
+        }
+        Some(privileges)
+    }
+
+    /// A role and its set.
+    fn row(&mut self, privileges: u64) -> Option<(u8, u64)> {
+        let role = self.number()?;
+        let mut set = 0;
+        for privilege in Members(privileges) {
+            if !self.passes(b',') {
+                return None;
+            }
+            set |= self.mark()? << privilege;
+        }
+        Some((role, set))
+    }
+}
+
+/// How many rows stand behind the heading, or the first row that is wrong.
+fn judge(text: &[u8]) -> Result<usize, NotImported> {
+    let bad = |row| NotImported::BadSheet { row };
+    let mut reader = Reader { text, at: 0 };
+    let privileges = reader.heading().ok_or(bad(1))?;
+    let mut row = 1;
+    while !reader.is_done() {
+        if !reader.passes_line_end() {
+            return Err(bad(row));
+        }
+        if !reader.is_done() {
+            row += 1;
+            reader.row(privileges).ok_or(bad(row))?;
+        }
+    }
+    Ok(row - 1)
+}
+
+/// Writes the records of rows that are judged.
+fn write(text: &[u8], tape: &mut [u8]) -> Option<()> {
+    let mut reader = Reader { text, at: 0 };
+    let privileges = reader.heading()?;
+    for record in tape.chunks_exact_mut(RECORD_LENGTH) {
+        reader.passes_line_end();
+        let (role, set) = reader.row(privileges)?;
+        record.fill(0);
+        record[..2].copy_from_slice(&[2, role]);
+        record[8..16].copy_from_slice(&set.to_le_bytes());
+    }
+    Some(())
+}
+
+/// Writes the tape of a sheet to the front of a lent buffer and gives its length; else nothing is touched.
+#[inline(never)]
+pub fn import(text: &[u8], tape: &mut [u8]) -> Result<usize, NotImported> {
+    let length = judge(text)? * RECORD_LENGTH;
+    let front = tape.get_mut(..length).ok_or(NotImported::ShortTape)?;
+    write(text, front).expect("the rows are judged");
+    Ok(length)
+}

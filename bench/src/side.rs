@@ -1,6 +1,6 @@
 //! What both sides can do, with the answers in the numbers of the exported functions, so that one function times either.
 
-use crate::plain::{Answer, Plain};
+use crate::plain::{import, Answer, NotImported, Plain};
 
 pub trait Side: Clone {
     fn fresh() -> Self;
@@ -10,7 +10,12 @@ pub trait Side: Clone {
     fn count_yes(&self, asks: &[u8]) -> u32;
     fn load(&mut self, bytes: &[u8]) -> u32;
     fn save(&self, buffer: &mut [u8]) -> u32;
+    /// The tape of a sheet. No state is concerned.
+    fn import(&self, text: &[u8], tape: &mut [u8]) -> u64;
 }
+
+/// What is added to the row where a text is not imported.
+const NOT_IMPORTED: u64 = 1 << 63;
 
 #[inline(always)]
 fn code(answer: Answer) -> u32 {
@@ -55,6 +60,15 @@ impl Side for Plain {
         match Plain::save(self, buffer) {
             Ok(length) => length as u32,
             Err(number) => 65536 + 256 * number as u32,
+        }
+    }
+
+    #[inline(always)]
+    fn import(&self, text: &[u8], tape: &mut [u8]) -> u64 {
+        match import(text, tape) {
+            Ok(length) => length as u64,
+            Err(NotImported::BadSheet { row }) => NOT_IMPORTED + row as u64,
+            Err(NotImported::ShortTape) => NOT_IMPORTED,
         }
     }
 }

@@ -100,7 +100,7 @@ fn often_enough(mut work: impl FnMut(usize) -> Duration) -> usize {
 }
 
 /// An operation that leaves the state as it is, over and over on one state.
-fn steady<S: Side>(state: &mut S, count: usize, op: &mut impl FnMut(&mut S) -> u32) -> Duration {
+fn steady<S: Side, A>(state: &mut S, count: usize, op: &mut impl FnMut(&mut S) -> A) -> Duration {
     let began = Instant::now();
     for _ in 0..count {
         black_box(op(black_box(state)));
@@ -131,10 +131,10 @@ fn nanoseconds(time: Duration, count: usize) -> f64 {
 }
 
 /// Two sides on the same work, which leaves their states as they are.
-pub fn time_steady<F: Side, S: Side>(
+pub fn time_steady<F: Side, S: Side, A>(
     (mut first, mut second): (F, S),
-    mut first_op: impl FnMut(&mut F) -> u32,
-    mut second_op: impl FnMut(&mut S) -> u32,
+    mut first_op: impl FnMut(&mut F) -> A,
+    mut second_op: impl FnMut(&mut S) -> A,
 ) -> Timed {
     let count = often_enough(|count| steady(&mut second, count, &mut second_op));
     Timed::in_turn(

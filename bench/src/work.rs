@@ -203,6 +203,34 @@ pub fn answered(state: &Plain, kind: u8, number: u8) -> Option<Vec<u8>> {
         .find(fits)
 }
 
+/// How many roles the timed sheets have.
+pub const SHEET_ROLES: usize = 62;
+
+/// A sheet of every ordinary role by every privilege, its marks random.
+pub fn sheet() -> Vec<u8> {
+    let mut random = Random::new(62);
+    let mut text = String::new();
+    for privilege in 0..64 {
+        text += &format!(",{privilege}");
+    }
+    for role in 2..2 + SHEET_ROLES {
+        text += &format!("\r\n{role}");
+        for _ in 0..64 {
+            text += &format!(",{}", random.under(2));
+        }
+    }
+    text += "\r\n";
+    text.into_bytes()
+}
+
+/// The same sheet with a wrong mark at the end of its last row, before the last line end.
+pub fn refused_sheet() -> Vec<u8> {
+    let mut text = sheet();
+    let last = text.len() - 3;
+    text[last] = b'2';
+    text
+}
+
 /// How often each of the kinds 1 to 12 stands on a tape, and damaged records.
 const WEIGHTS: [usize; 13] = [8, 8, 9, 11, 10, 8, 8, 5, 5, 7, 7, 12, 2];
 

@@ -11,6 +11,9 @@
     except Refused as refused:
         print(refused)                      # refused with 21, place 3: there is no role 3
 
+    for record in records(import_sheet(text)):
+        keeper.record(record)               # a role for each row of a permission sheet
+
 The proved functions stand in the shared object libkeeper.so, which `make` builds from the archive libkeeper.a. It is
 looked for in the folder KEEPER_LIBRARY, beside this file, and in the repository's target/shared.
 
@@ -22,14 +25,18 @@ import operator
 import os
 from pathlib import Path
 
-__all__ = ['Keeper', 'Refused', 'image_length', 'WORDS', 'LONGEST_IMAGE']
+__all__ = ['Keeper', 'Refused', 'image_length', 'import_sheet', 'import_sheet_into', 'records',
+           'WORDS', 'LONGEST_IMAGE', 'RECORD']
 
-# How many words a state takes, and how many bytes the longest image has.
+# How many words a state takes, how many bytes the longest image has, and how many a record.
 WORDS = 193
 LONGEST_IMAGE = 5182
-# The answer for a block of fewer words, and what is added to a refusal that stands in the place of a length.
+RECORD = 32
+# The answer for a block of fewer words, what is added to a refusal that stands in the place of a length, and what is
+# added to a row that stands in the place of a tape's length.
 NO_STATE = 65535
 NOT_SAVED = 65536
+NOT_IMPORTED = 2 ** 63
 
 _BLOCK, _WORDS = ctypes.POINTER(ctypes.c_uint64), ctypes.c_size_t
 _BYTES, _LENGTH = ctypes.POINTER(ctypes.c_uint8), ctypes.c_size_t
@@ -53,6 +60,11 @@ _FUNCTIONS = {
     'keeper_is_declared': (_BOOL, _U8, _U8),
     'keeper_seat_roles': (_U64, _U8),
     'keeper_seat_holds': (_U64, _U8),
+}
+# Those that have no block: the result, then the parameters.
+_BLOCKLESS = {
+    'keeper_image_length': (_U32, _BYTES, _LENGTH),
+    'keeper_import': (_U64, _BYTES, _LENGTH, _BYTES, _LENGTH),
 }
 
 # What each refusal means, with its place.
@@ -78,6 +90,8 @@ _TEXTS = {
     28: 'role {place} would hold what another role holds',
     29: 'role {place} would hold privileges in conflict',
     30: 'seat {place} would hold privileges in conflict',
+    32: 'row {place} is not one of a sheet, or has a number out of range',
+    33: 'the buffer is shorter than the tape',
 }
 
 
@@ -92,11 +106,10 @@ def _loaded():
         raise ImportError(f"libkeeper.so stands neither in {tried}: run `make` in the repository's top folder, "
                           'which proves the library and builds it, or name its folder by KEEPER_LIBRARY')
     library = ctypes.PyDLL(str(found[0]))
-    for name, (result, *parameters) in _FUNCTIONS.items():
-        function = getattr(library, name)
-        function.restype, function.argtypes = result, (_BLOCK, _WORDS, *parameters)
-    library.keeper_image_length.restype = _U32
-    library.keeper_image_length.argtypes = (_BYTES, _LENGTH)
+    for functions, front in [(_FUNCTIONS, (_BLOCK, _WORDS)), (_BLOCKLESS, ())]:
+        for name, (result, *parameters) in functions.items():
+            function = getattr(library, name)
+            function.restype, function.argtypes = result, (*front, *parameters)
     return library
 
 
@@ -104,7 +117,7 @@ _library = _loaded()
 
 
 class Refused(ValueError):
-    """A call, a load or a save is refused; nothing is changed. It has a number, a place and a text."""
+    """A call, a load, a save or an import is refused; nothing is changed. It has a number, a place and a text."""
 
     def __init__(self, number, place):
         text = _TEXTS.get(number, 'a refusal that this module does not know').format(place=place)
@@ -161,6 +174,43 @@ def _bytes(given):
 def image_length(given):
     """How long the image is that ends the bytes; what precedes it is not read. Refused as loading is."""
     return _length(_library.keeper_image_length(*_bytes(given)))
+
+
+def _room(buffer):
+    """A writable buffer as the functions take it: where it stands and how long it is."""
+    view = memoryview(buffer).cast('B')
+    return (ctypes.c_uint8 * len(view)).from_buffer(view), len(view)
+
+
+def import_sheet_into(text, buffer):
+    """Writes the tape of a permission sheet to the front of a writable buffer and gives its length.
+
+    A refusal with 32 has as its place the first row that is wrong, the heading being row 1; 33 is a buffer that is
+    shorter than the tape. Neither touches the buffer.
+    """
+    given = _library.keeper_import(*_bytes(text), *_room(buffer))
+    if given == NOT_IMPORTED:
+        raise Refused(33, 0)
+    if given > NOT_IMPORTED:
+        raise Refused(32, given - NOT_IMPORTED)
+    return given
+
+
+def import_sheet(text):
+    """The tape of a permission sheet, a record of kind 2 for each row behind the heading, in row order.
+
+    A refusal with 32 has as its place the first row that is wrong, the heading being row 1.
+    """
+    text = bytes(text)
+    # A row behind the heading has five bytes at least, with the line end before it.
+    tape = bytearray(len(text) // 5 * RECORD)
+    length = import_sheet_into(text, tape)
+    return bytes(memoryview(tape)[:length])
+
+
+def records(tape):
+    """The records of a tape; bytes left over at the end are one too."""
+    return [tape[at:at + RECORD] for at in range(0, len(tape), RECORD)]
 
 
 class Keeper:
@@ -261,9 +311,7 @@ class Keeper:
 
     def save_into(self, buffer):
         """Writes the image to the front of a bytearray or another writable buffer and gives its length."""
-        view = memoryview(buffer).cast('B')
-        room = (ctypes.c_uint8 * len(view)).from_buffer(view)
-        return _length(_library.keeper_save(*self._block, room, len(view)))
+        return _length(_library.keeper_save(*self._block, *_room(buffer)))
 
     # ---- what a keeper shows
 

@@ -15,7 +15,7 @@ OWN = Path(__file__).resolve().parent
 sys.path.insert(0, str(OWN))
 
 import keeper
-from keeper import Keeper, Refused, image_length
+from keeper import Keeper, Refused, image_length, import_sheet, import_sheet_into, records
 
 # The saved sample of document 01.
 SAVED = bytes.fromhex('03 00 00 00 00 00 00 00  02 01 00 00 00 00 00 00 00  03 03 00 00 00 00 00 00 00  00 02'
@@ -96,7 +96,7 @@ class Calls(Test):
         self.assertEqual(got.save(), SAVED)
 
     def test_the_texts_are_those_of_the_rust_wrapper(self):
-        source = (OWN.parent / 'rust/src/refusal.rs').read_text()
+        source = ''.join((OWN.parent / 'rust/src' / name).read_text() for name in ['refusal.rs', 'sheet.rs'])
         rust = re.findall(r'\(\s*(\d+),\s*"([^"]*)",?\s*\)', source)
         self.assertEqual({int(number): text for number, text in rust}, keeper._TEXTS)
 
@@ -168,6 +168,51 @@ class Images(Test):
         self.assertEqual(buffer, SAVED + b'\xa5' * 5)
 
 
+class Sheets(Test):
+    # Roles 2 {0}, 3 {0,63} and 0 {}, quoted here and there; and their records.
+    SHEET = b'"",0,"7",63\r\n2,1,0,0\r\n"3",1,"0",1\r\n0,0,0,0\r\n'
+    TAPE = b''.join(bytes([2, role, *[0] * 6]) + word.to_bytes(8, 'little') + bytes(16)
+                    for role, word in [(2, 1), (3, 1 | 1 << 63), (0, 0)])
+
+    def test_a_sheet(self):
+        self.assertEqual(import_sheet(self.SHEET), self.TAPE)
+        self.assertEqual(import_sheet(bytearray(self.SHEET[:-2])), self.TAPE)
+        self.assertEqual(import_sheet(b',5'), b'')
+        got = Keeper()
+        first, second, third = records(import_sheet(self.SHEET))
+        self.assertIsNone(got.record(first))
+        self.assertIsNone(got.record(second))
+        self.refuses(3, 0, got.record, third)
+        self.assertEqual((got.effective(2), got.effective(3)), ({0}, {0, 63}))
+
+    def test_a_wrong_row(self):
+        for row, text in [(1, b''), (1, b',0\n2,1\n'), (1, b',64'), (3, b',0\r\n2,1\r\n03,1'), (3, b',0\r\n2,1\r\n\r\n')]:
+            with self.subTest(text):
+                self.refuses(32, row, import_sheet, text)
+                self.refuses(32, row, import_sheet_into, text, bytearray())
+        said = self.refuses(32, 70002, import_sheet, b',0' + b'\r\n2,1' * 70000 + b'\r\n2')
+        self.assertEqual(said.text, 'row 70002 is not one of a sheet, or has a number out of range')
+        self.assertRaises(TypeError, import_sheet, ',0')
+
+    def test_a_buffer(self):
+        buffer = bytearray(b'\xa5' * 100)
+        self.refuses(33, 0, import_sheet_into, self.SHEET, memoryview(buffer)[:95])
+        self.assertEqual(buffer, b'\xa5' * 100)
+        self.assertEqual(import_sheet_into(self.SHEET, memoryview(buffer)[:96]), 96)
+        self.assertEqual(buffer, self.TAPE + b'\xa5' * 4)
+        self.assertEqual(import_sheet_into(self.SHEET, buffer), 96)
+        self.assertEqual(buffer, self.TAPE + b'\xa5' * 4)
+
+    def test_the_room(self):
+        for rows in range(50):
+            self.assertEqual(len(import_sheet(b',0' + b'\r\n2,1' * rows)), 32 * rows)
+
+    def test_records(self):
+        self.assertEqual(records(bytes(64)), [bytes(32)] * 2)
+        self.assertEqual(records(bytes(33)), [bytes(32), bytes(1)])
+        self.assertEqual(records(b''), [])
+
+
 class Shown(Test):
     def test_what_a_keeper_shows(self):
         got = sample()
@@ -200,9 +245,9 @@ class Shown(Test):
             function = getattr(keeper._library, name)
             self.assertEqual(function.restype, names[result], name)
             self.assertEqual(list(function.argtypes), [of_c(part.strip()) for part in parameters.split(',')], name)
-        self.assertEqual({name for _, name, _ in found}, {*keeper._FUNCTIONS, 'keeper_image_length'})
-        values = dict(re.findall(r'^#define KEEPER_(\w+) (\d+)$', header, re.M))
-        for name in ['WORDS', 'LONGEST_IMAGE', 'NO_STATE', 'NOT_SAVED']:
+        self.assertEqual({name for _, name, _ in found}, {*keeper._FUNCTIONS, *keeper._BLOCKLESS})
+        values = dict(re.findall(r'^#define KEEPER_(\w+) (?:UINT64_C\()?(\d+)\)?$', header, re.M))
+        for name in ['WORDS', 'LONGEST_IMAGE', 'RECORD', 'NO_STATE', 'NOT_SAVED', 'NOT_IMPORTED']:
             self.assertEqual(getattr(keeper, name), int(values[name]))
         refusals = re.search(r'enum keeper_refusal \{(.*?)\};', header, re.S)[1]
         self.assertEqual([int(n) for n in re.findall(r' = (\d+)', refusals)], list(keeper._TEXTS))

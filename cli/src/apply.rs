@@ -15,7 +15,8 @@ const SHOWN: usize = 20;
 /// The records of a text, or its wrong lines.
 pub fn of_text(text: &[u8]) -> Result<Vec<Record>, String> {
     text::records(text).map_err(|wrong| {
-        let mut shown: Vec<String> = wrong.iter().take(SHOWN).map(text::shown).collect();
+        let lines = wrong.iter().take(SHOWN);
+        let mut shown: Vec<String> = lines.map(|wrong| text::shown("line", wrong)).collect();
         if wrong.len() > SHOWN {
             shown.push(format!("and {} more wrong lines", wrong.len() - SHOWN));
         }

@@ -13,6 +13,7 @@ usage: keeper COMMAND ...
   who IMAGE PRIVILEGE         the seats that may use the privilege
   show [--dot] IMAGE          roles, edges, conflicts and seats
   tape write | read           turn the text form into a tape, or a tape into text
+  import SHEET                turn a permission sheet into a tape
   help [COMMAND]              this help, or that of a command (also: keeper COMMAND --help)
   --version                   the version
 
@@ -111,6 +112,29 @@ Reading a tape and writing the text gives the tape again. Wrong lines are shown,
 exit status: 0, or 2 for wrong usage, a wrong line or trouble with reading or writing
 ";
 
+/// The help of `import`.
+const IMPORT: &str = "\
+usage: keeper import SHEET > TAPE
+
+Turns a permission sheet into a tape, a record for each row behind the heading, in row order. 'keeper apply IMAGE TAPE'
+gives them to an image. SHEET is a file of RFC 4180 text (CSV), or standard input where it is '-':
+
+  ,0,1,4       the heading: an empty field, then the numbers of privileges, strictly ascending
+  2,1,1,0      a row: the number of a role, then 0 or 1 for each privilege; as the text 'role 2 {0,1}'
+  3,1,1,1      role 3 {0,1,4}
+
+Numbers are 0 to 63 in base ten, without leading zeros, signs or spaces. A field may stand between double quotes. Every
+line ends with CR LF, which may be missing behind the last. For a sheet whose lines end with LF alone:
+
+  sed 's/$/\\r/' SHEET | keeper import - > TAPE
+
+Where the text is no sheet, nothing is written to standard output. Standard error names the first row that is wrong, the
+heading being row 1, says why, and shows what stands around the place, up to the row's first CR or LF; a byte that does
+not print stands there as '\\x00'.
+
+exit status: 0 imported, 1 refused, 2 wrong usage or trouble with a file
+";
+
 /// The help of a command.
 pub fn of(command: &str) -> Option<&'static str> {
     Some(match command {
@@ -120,6 +144,7 @@ pub fn of(command: &str) -> Option<&'static str> {
         "who" => WHO,
         "show" => SHOW,
         "tape" => TAPE,
+        "import" => IMPORT,
         _ => return None,
     })
 }

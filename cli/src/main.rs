@@ -6,6 +6,7 @@ mod diagnosis;
 mod file;
 mod help;
 mod meaning;
+mod sheet;
 mod show;
 mod text;
 mod why;
@@ -30,6 +31,8 @@ pub enum Failure {
     Usage(String),
     /// A number that is refused: the answer.
     Refused(String),
+    /// A sheet that is refused: the reason, for standard error, since standard output is the tape's.
+    Unimported(String),
     /// Trouble with a file or with a text: the reason.
     Trouble(String),
 }
@@ -165,6 +168,7 @@ fn run(command: &str, given: &[OsString]) -> Outcome {
         ("who", _) => who(given),
         ("show", _) => show(given),
         ("tape", _) => tape(given),
+        ("import", _) => sheet::import(given),
         ("help" | "--help" | "-h", _) => help(given),
         ("--version", _) if given.is_empty() => {
             done(true, concat!("keeper ", env!("CARGO_PKG_VERSION"), "\n"))
@@ -200,14 +204,15 @@ fn main() {
         print(&done.output)?;
         Ok(done.yes)
     });
-    let said = match printed {
+    let (status, said) = match printed {
         Ok(yes) => exit(if yes { 0 } else { 1 }),
-        Err(Failure::Refused(said) | Failure::Trouble(said)) => format!("keeper: {said}\n"),
+        Err(Failure::Unimported(said)) => (1, said),
+        Err(Failure::Refused(said) | Failure::Trouble(said)) => (2, said),
         Err(Failure::Usage(said)) => {
             let usage = help::usage(help::of(&command).unwrap_or(help::ALL));
-            format!("keeper: {said}\n{usage}\n`keeper help` says more\n")
+            (2, format!("{said}\n{usage}\n`keeper help` says more"))
         }
     };
-    let _ = stderr().write_all(said.as_bytes());
-    exit(2);
+    let _ = stderr().write_all(format!("keeper: {said}\n").as_bytes());
+    exit(status);
 }

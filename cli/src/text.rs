@@ -16,7 +16,7 @@ pub struct Record {
     pub bytes: Vec<u8>,
 }
 
-/// A line that is of no form, as it stands.
+/// A line that is of no form, as it stands; or a row of a sheet that is none.
 pub struct WrongLine {
     pub line: usize,
     pub text: String,
@@ -179,7 +179,7 @@ pub fn record_of(line: &str) -> Result<Vec<u8>, Wrong> {
 }
 
 /// The mark that some editors put before a text.
-const MARK: &[u8] = "\u{FEFF}".as_bytes();
+pub const MARK: &[u8] = "\u{FEFF}".as_bytes();
 
 /// The records of a text, or the lines that are wrong.
 pub fn records(text: &[u8]) -> Result<Vec<Record>, Vec<WrongLine>> {
@@ -271,8 +271,8 @@ pub fn line_of(record: &[u8]) -> String {
 /// How much of a wrong line is shown before and behind the place.
 const SHOWN: usize = 60;
 
-/// What is wrong, the line, and a mark under the place.
-pub fn shown(wrong: &WrongLine) -> String {
+/// What is wrong, the line by this noun, and a mark under the place.
+pub fn shown(noun: &str, wrong: &WrongLine) -> String {
     let first = wrong.wrong.column.saturating_sub(SHOWN);
     let plain = |c: char| {
         if c != '\t' && c.is_control() {
@@ -298,7 +298,7 @@ pub fn shown(wrong: &WrongLine) -> String {
         under.push(' ');
     }
     format!(
-        "line {}: {}\n    {part}\n    {under}^",
+        "{noun} {}: {}\n    {part}\n    {under}^",
         wrong.line, wrong.wrong.said
     )
 }

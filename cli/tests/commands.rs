@@ -354,7 +354,7 @@ fn show_says_what_an_image_holds() {
 // ---- usage ----
 
 /// Wrong words, and what is said of them.
-const WRONG: [(&[&str], &str); 16] = [
+const WRONG: [(&[&str], &str); 18] = [
     (&[], "a command is missing"),
     (&["fly"], "there is no command 'fly'"),
     (&["new"], "IMAGE is missing"),
@@ -389,6 +389,8 @@ const WRONG: [(&[&str], &str); 16] = [
     (&["show", "--svg", "sample"], "there is no option '--svg'"),
     (&["tape"], "write or read is missing"),
     (&["tape", "play"], "'play' is neither write nor read"),
+    (&["import"], "SHEET is missing"),
+    (&["import", "--text", "-"], "there is no option '--text'"),
 ];
 
 #[test]
@@ -407,7 +409,7 @@ fn every_command_has_its_help() {
     let folder = Folder::new();
     let all = folder.run(&["--help"]);
     assert_eq!(all.status, 0);
-    for command in ["new", "apply", "ask", "who", "show", "tape"] {
+    for command in ["new", "apply", "ask", "who", "show", "tape", "import"] {
         assert!(all.text().contains(&format!("\n  {command} ")), "{command}");
         let help = folder.run(&[command, "--help"]);
         assert!(help

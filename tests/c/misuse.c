@@ -133,6 +133,7 @@ static void null_with_length_0_is_fine(void)
     CHECK(keeper_image_length(NULL, 0) == KEEPER_NOT_SAVED + 256 * KEEPER_NO_IMAGE);
     CHECK(keeper_save(block, KEEPER_WORDS, NULL, 0) == KEEPER_NOT_SAVED + 256 * KEEPER_SHORT_BUFFER);
     CHECK(keeper_count_yes(block, KEEPER_WORDS, NULL, 0) == 0);
+    CHECK(keeper_import(NULL, 0, NULL, 0) == KEEPER_NOT_IMPORTED + 1);
     CHECK(keeper_fresh(NULL, 0) == KEEPER_NO_STATE);
     CHECK(keeper_call(NULL, 0, NULL, 0) == KEEPER_NO_STATE);
     CHECK(keeper_edge_count(NULL, 0) == 0);
@@ -206,6 +207,27 @@ static void an_image_before_other_bytes_is_refused_and_the_state_stays(void)
     }
 }
 
+/* ---- sheets ---- */
+
+/* Whatever stands in the place of a tape's length ends no loop over the tape soon, so it is larger than every buffer. */
+static void a_refused_import_gives_no_length(void)
+{
+    static const uint8_t sheet[] = { ',', '0', '\r', '\n', '2', ',', '1' };
+    uint8_t tape[KEEPER_TAPE_ROOM(sizeof sheet)], untouched[KEEPER_TAPE_ROOM(sizeof sheet)];
+    uint64_t refused, given;
+    memset(tape, FILLER, sizeof tape);
+    memset(untouched, FILLER, sizeof untouched);
+    refused = keeper_import(sheet, sizeof sheet - 1, tape, sizeof tape);
+    CHECK(!KEEPER_IS_TAPE(refused) && refused > SIZE_MAX / 2);
+    CHECK(KEEPER_IMPORT_NUMBER(refused) == KEEPER_BAD_SHEET && KEEPER_ROW(refused) == 2);
+    given = keeper_import(sheet, sizeof sheet, tape, sizeof tape - 1);
+    CHECK(!KEEPER_IS_TAPE(given) && given > SIZE_MAX / 2);
+    CHECK(KEEPER_IMPORT_NUMBER(given) == KEEPER_SHORT_TAPE && KEEPER_ROW(given) == 0);
+    CHECK(memcmp(tape, untouched, sizeof tape) == 0);
+    given = keeper_import(sheet, sizeof sheet, tape, sizeof tape);
+    CHECK(KEEPER_IS_TAPE(given) && given == sizeof tape);
+}
+
 /* ---- answers ---- */
 
 static void a_refusal_has_its_number_and_place(void)
@@ -227,7 +249,7 @@ static void every_refusal_has_a_text_of_its_own(void)
 {
     uint32_t n, m;
     for (n = 0; n < 300; n++) {
-        bool known = n <= 9 || (20 <= n && n <= 31) || n == KEEPER_NUMBER((uint32_t)KEEPER_NO_STATE);
+        bool known = n <= 9 || (20 <= n && n <= 33) || n == KEEPER_NUMBER((uint32_t)KEEPER_NO_STATE);
         CHECK((strcmp(keeper_refusal_text(n), "no refusal has this number") != 0) == known);
         for (m = 0; known && m < n; m++) {
             CHECK(strcmp(keeper_refusal_text(n), keeper_refusal_text(m)) != 0);
@@ -250,6 +272,7 @@ int main(void)
     RUN(a_save_into_a_short_buffer_gives_no_length);
     RUN(an_image_behind_other_bytes_loads);
     RUN(an_image_before_other_bytes_is_refused_and_the_state_stays);
+    RUN(a_refused_import_gives_no_length);
     RUN(a_refusal_has_its_number_and_place);
     RUN(every_refusal_has_a_text_of_its_own);
     return failed_tests > 0;

@@ -14,6 +14,9 @@ static uint64_t block[KEEPER_WORDS];
 static uint8_t image[KEEPER_LONGEST_IMAGE];
 static uint32_t image_length;
 static keeper_record record;
+static uint8_t sheet[1 << 14];
+static size_t sheet_length;
+static uint8_t tape[KEEPER_TAPE_ROOM(sizeof sheet)];
 static uint64_t given;
 
 /* ---- what runs on the painted stack ---- */
@@ -23,6 +26,7 @@ static void fresh(void) { given = keeper_fresh(block, KEEPER_WORDS); }
 static void call(void) { given = keeper_call(block, KEEPER_WORDS, record.bytes, KEEPER_RECORD); }
 static void load(void) { given = keeper_load(block, KEEPER_WORDS, image, image_length); }
 static void save(void) { given = keeper_save(block, KEEPER_WORDS, image, sizeof image); }
+static void import_sheet(void) { given = keeper_import(sheet, sheet_length, tape, sizeof tape); }
 static void measured(void) { given = keeper_image_length(image, image_length); }
 static void may(void) { given = keeper_may(block, KEEPER_WORDS, 5, 1); }
 static void ask(void) { given = keeper_ask(block, KEEPER_WORDS, 5, 1); }
@@ -58,9 +62,11 @@ static size_t touched(void (*run_there)(void))
 
 static size_t most;
 
+/* What the run gives stays in `given`, so it comes last. */
 static void measure(void (*run_there)(void))
 {
-    size_t deep = touched(run_there) - touched(nothing);
+    size_t bare = touched(nothing);
+    size_t deep = touched(run_there) - bare;
     CHECK(deep <= KEEPER_STACK);
     most = deep > most ? deep : most;
 }
@@ -106,10 +112,45 @@ static void what_a_full_state_shows_and_saves(void)
     CHECK(given == 0);
 }
 
+static void put(const char *text)
+{
+    memcpy(sheet + sheet_length, text, strlen(text));
+    sheet_length += strlen(text);
+}
+
+/* A field between quotes, behind others of its row. */
+static void put_number(unsigned n)
+{
+    char text[8];
+    snprintf(text, sizeof text, ",\"%u\"", n);
+    put(text);
+}
+
+/* The widest heading, every field of the rows between quotes, and then a row that is wrong. */
+static void the_widest_sheet(void)
+{
+    unsigned row, n;
+    for (n = 0; n < 64; n++) {
+        put_number(n);
+    }
+    for (row = 0; row < 40; row++) {
+        put("\r\n63");
+        for (n = 0; n < 64; n++) {
+            put_number(n % 2);
+        }
+    }
+    measure(import_sheet);
+    CHECK(given == 40 * KEEPER_RECORD);
+    put("\r\n63");
+    measure(import_sheet);
+    CHECK(KEEPER_ROW(given) == 42);
+}
+
 int main(void)
 {
     RUN(the_deepest_chain);
     RUN(what_a_full_state_shows_and_saves);
+    RUN(the_widest_sheet);
     printf("at most %u bytes of stack\n", (unsigned)most);
     return failed_tests > 0;
 }

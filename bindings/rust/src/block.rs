@@ -10,6 +10,8 @@ extern "C" {
     fn keeper_save(block: *const u64, words: usize, buffer: *mut u8, length: usize) -> u32;
     fn keeper_load(block: *mut u64, words: usize, bytes: *const u8, length: usize) -> u32;
     fn keeper_image_length(bytes: *const u8, length: usize) -> u32;
+    fn keeper_import(text: *const u8, text_length: usize, tape: *mut u8, tape_length: usize)
+        -> u64;
     fn keeper_may(block: *const u64, words: usize, seat: u32, privilege: u32) -> bool;
     fn keeper_ask(block: *const u64, words: usize, seat: u8, privilege: u8) -> u32;
     fn keeper_count_yes(block: *const u64, words: usize, asks: *const u8, length: usize) -> u64;
@@ -32,6 +34,8 @@ pub const LONGEST_IMAGE: usize = 5182;
 pub const NO_STATE: u32 = 65535;
 /// What is added to the answer where there is no length.
 pub const NOT_SAVED: u32 = 65536;
+/// What is added to the row where there is no tape.
+pub const NOT_IMPORTED: u64 = 1 << 63;
 
 /// Makes the state a fresh one.
 pub fn fresh(block: &mut [u64]) -> u32 {
@@ -58,6 +62,13 @@ pub fn load(block: &mut [u64], bytes: &[u8]) -> u32 {
     let (at, words) = (block.as_mut_ptr(), block.len());
     // SAFETY: both slices are valid for their lengths, and the block is exclusive.
     unsafe { keeper_load(at, words, bytes.as_ptr(), bytes.len()) }
+}
+
+/// Writes the tape of a sheet to the buffer's front.
+pub fn import(text: &[u8], tape: &mut [u8]) -> u64 {
+    let (at, length) = (text.as_ptr(), text.len());
+    // SAFETY: both slices are valid for their lengths, and the buffer is exclusive.
+    unsafe { keeper_import(at, length, tape.as_mut_ptr(), tape.len()) }
 }
 
 /// How long the image is that ends the bytes.

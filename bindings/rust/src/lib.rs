@@ -1,6 +1,7 @@
 //! The TraceBench role keeper for Rust: may this seat use this privilege?
 //!
-//! A [`Keeper`] owns its whole state; nothing else is allocated but the image that [`Keeper::save`] gives.
+//! A [`Keeper`] owns its whole state; nothing else is allocated but the image that [`Keeper::save`] gives, and the tape
+//! that [`import`] makes of a permission sheet.
 //! The functions behind it are proved; `docs/REFERENCE.md` has the model, the calls and the refusals.
 //!
 //! ```
@@ -22,11 +23,13 @@ pub mod block;
 mod call;
 mod refusal;
 mod set;
+mod sheet;
 
 pub use block::{LONGEST_IMAGE, WORDS};
 pub use call::{Call, RECORD_LENGTH};
 pub use refusal::Refusal;
 pub use set::{Set, NUMBERS};
+pub use sheet::{import, import_into, tape_room, SheetRefusal};
 
 use block::NOT_SAVED;
 

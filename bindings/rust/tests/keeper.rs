@@ -1,6 +1,10 @@
-//! The wrapper over the archive: calls and their records, refusals and their words, asks, images, and what a keeper shows.
+//! The wrapper over the archive: calls and their records, refusals and their words, asks, images, what a keeper shows, and
+//! sheets.
 
-use keeper::{block, image_length, Answer, Call, Keeper, Refusal, Set, WORDS};
+use keeper::{
+    block, image_length, import, import_into, tape_room, Answer, Call, Keeper, Refusal, Set,
+    SheetRefusal, RECORD_LENGTH, WORDS,
+};
 
 /// Document 01's sample: its six calls, of which the fifth is refused.
 const SAMPLE: [Call; 6] = [
@@ -307,4 +311,94 @@ fn a_set_prints_its_members() {
 #[should_panic(expected = "0 to 63")]
 fn a_set_has_no_member_64() {
     Set::of(&[64]);
+}
+
+// ---- sheets ----
+
+/// Roles 2 {0}, 3 {0,63} and 0 {}, quoted here and there.
+const SHEET: &[u8] = b"\"\",0,\"7\",63\r\n2,1,0,0\r\n\"3\",1,\"0\",1\r\n0,0,0,0\r\n";
+
+/// The tape of that sheet.
+fn sheet_tape() -> Vec<u8> {
+    let rows = [(2, 1), (3, 1 | 1 << 63), (0, 0)];
+    let records = rows.map(|(role, set)| bytes([2, role, 0], [set, 0, 0]));
+    records.concat()
+}
+
+#[test]
+fn a_sheet_becomes_its_tape() {
+    assert_eq!(import(SHEET), Ok(sheet_tape()));
+    let cut = &SHEET[..SHEET.len() - 2];
+    assert_eq!(import(cut), Ok(sheet_tape()));
+    assert_eq!(import(b",5"), Ok(Vec::new()));
+    let mut keeper = Keeper::fresh();
+    let answers: Vec<_> = sheet_tape()
+        .chunks(RECORD_LENGTH)
+        .map(|record| keeper.record(record))
+        .collect();
+    let accepted = Ok(Answer::Accepted);
+    let end = Err(Refusal::EndRole { role: 0 });
+    assert_eq!(answers, [accepted, accepted, end]);
+}
+
+#[test]
+fn a_text_that_is_no_sheet_names_its_row() {
+    let refused = [
+        (&b""[..], 1),
+        (b",0\n2,1\n", 1),
+        (b",64\r\n", 1),
+        (b",0\r\n2,1\r\n03,1\r\n", 3),
+        (b",0\r\n2,1\r\n\r\n", 3),
+    ];
+    for (text, row) in refused {
+        let refusal = SheetRefusal::BadSheet { row };
+        assert_eq!(import(text), Err(refusal));
+        assert_eq!(import_into(text, &mut []), Err(refusal));
+    }
+    let long = [b",0".to_vec(), b"\r\n2,1".repeat(70_000), b"\r\n2".to_vec()].concat();
+    let refusal = import(&long).expect_err("the last row has one field");
+    assert_eq!(refusal.parts(), (32, 70_002));
+    assert_eq!((refusal.number(), refusal.place()), (32, 70_002));
+    assert_eq!(
+        refusal.to_string(),
+        "row 70002 is not one of a sheet, or has a number out of range"
+    );
+}
+
+#[test]
+fn a_buffer_shorter_than_the_tape_is_left_alone() {
+    let tape = sheet_tape();
+    let mut buffer = [0xA5; 100];
+    let short = import_into(SHEET, &mut buffer[..95]);
+    assert_eq!(short, Err(SheetRefusal::ShortTape));
+    assert_eq!(buffer, [0xA5; 100]);
+    assert_eq!(SheetRefusal::ShortTape.parts(), (33, 0));
+    let said = SheetRefusal::ShortTape.to_string();
+    assert_eq!(said, "the buffer is shorter than the tape");
+    assert_eq!(import_into(SHEET, &mut buffer[..96]), Ok(96));
+    assert_eq!((&buffer[..96], &buffer[96..]), (&tape[..], &[0xA5; 4][..]));
+    assert_eq!(import_into(SHEET, &mut buffer), Ok(96));
+    assert_eq!(buffer[96..], [0xA5; 4]);
+    assert_eq!(import_into(b",5\r\n", &mut []), Ok(0));
+}
+
+#[test]
+fn the_room_takes_the_tape_of_every_sheet() {
+    for rows in 0..50 {
+        let text = [b",0".to_vec(), b"\r\n2,1".repeat(rows)].concat();
+        assert_eq!(import(&text).map(|tape| tape.len()), Ok(32 * rows));
+        assert!(tape_room(text.len()) >= 32 * rows);
+    }
+}
+
+#[test]
+fn the_archives_numbers_are_told_apart() {
+    let mut tape = [0; 32];
+    assert_eq!(block::import(b",0\r\n2,1", &mut tape), 32);
+    let refused = block::NOT_IMPORTED + 2;
+    assert_eq!(block::import(b",0\r\n2,2", &mut tape), refused);
+    assert_eq!(
+        block::import(b",0\r\n2,1", &mut tape[1..]),
+        block::NOT_IMPORTED
+    );
 }
