@@ -2,3 +2,4 @@ pub mod Bench
 pub mod Tape
 pub mod Seats
 pub mod Withdrawals
+pub mod Sheets

@@ -1,1 +1,1 @@
-// Theorems alone: document 01's worked examples, by evaluation of its definitions.
+// Theorems alone: worked examples of documents 01 and 02, by evaluation of the definitions.
