@@ -1,14 +1,14 @@
 -- The demands hold of the exported importer: its number tells the answer.
 -- Assumes nothing.
 use mathlib.Core.List.{List, _++_}
-use mathlib.Core.Path.{_≡_, refl, sym, ap, _∙_}
+use mathlib.Core.Path.{_≡_, sym, ap, _∙_}
 use Prim.Native.Nat.{ℕ, _+_, _<_, _≤_}
 use native.Mathlib.Omega.{arith}
 use lib.ListN.{length, drop}
 use Rattle.sheets.specs.Sheets.{Sheet, Spells, tape-of}
-use Rattle.sheets.specs.Importing.{Imported, imported, refused, Fails, Imports, fails}
+use Rattle.sheets.specs.Importing.{Imported, Fails}
 use Rattle.sheets.proofs.Spelling.{one-spelt, one-row, row-bound}
-use Rattle.sheets.proofs.Outcomes.{Outcome, bad-text, no-room, has-room, outcome, one-outcome}
+use Rattle.sheets.proofs.Outcomes.{bad-text, no-room, has-room, outcome, one-outcome}
 use Rattle.keeper.specs.Imports.{not-imported, import-code, ImportPromise, DemandsOnImports}
 
 one-answer : (text buffer left leaves : List ℕ) (r q : ℕ) → ImportPromise text buffer r left → ImportPromise text buffer q leaves → (r ≡ q) × (left ≡ leaves)

@@ -13,7 +13,7 @@ use borrow.Author.Tests.{eqb-true, eqb-false, ne-eqb}
 use Rattle.graph.specs.Graph.{privilege-count}
 use Rattle.sheets.specs.Rfc.{comma}
 use Rattle.sheets.specs.Parsing.{Read, got, bad, and-then, head, rest, field, ended, fronted, columns, opened, at-end, heading}
-use Rattle.sheets.specs.Reading.{read-number, read-end, read-columns, count-of, ColumnsRead}
+use Rattle.sheets.specs.Working.{read-number, read-end, read-columns, count-of, ColumnsRead}
 use Rattle.sheets.specs.declared.fields.Number as number-enum
 use Rattle.sheets.specs.declared.fields.Number.the-variants as numbers
 use Rattle.sheets.specs.declared.fields.LineEnd as end-enum

@@ -2,16 +2,13 @@
 -- Assumes nothing.
 use mathlib.Core.List.{List, _++_, map}
 use mathlib.Core.Logic.{_⊎_, inl, inr}
-use mathlib.Core.Path.{_≡_, refl, sym, ap, ap₂, _∙_}
+use mathlib.Core.Path.{_≡_, refl, sym, ap, _∙_}
 use Prim.Native.Nat.{ℕ, _<_, _≤_}
 use native.Mathlib.Omega.{arith}
 use lib.ListN.{length, take, drop}
 use lib.Seq.{take-append-seam, drop-append-seam}
 use Rattle.lists.specs.Runs.{Chain, run}
 use Rattle.lists.proofs.Runs.{chain-runs}
-use Rattle.seats.specs.Calls.{perform}
-use Rattle.seats.specs.Calls as calls
-use Rattle.seats.specs.Seats as seats
 use Rattle.seats.specs.Records.{step}
 use Rattle.seats.specs.Tape.{records}
 use Rattle.seats.specs.Promises.{StepPromise}
@@ -22,7 +19,7 @@ use Rattle.seats.specs.declared.Answer.{Answer}
 use Rattle.seats.specs.Bytes.{fill}
 use Rattle.seats.proofs.Written.{unfilled}
 use Rattle.seats.proofs.KeeperTheorem.{keeper-theorem}
-use Rattle.sheets.specs.Sheets.{Sheet, Spells, calls-of, tape-of}
+use Rattle.sheets.specs.Sheets.{Sheet, Spells, tape-of}
 use Rattle.sheets.specs.Importing.{imported, refused, Fails, Imports, filled, fails, spelt}
 use Rattle.sheets.specs.Importing as importing
 use Rattle.sheets.specs.Reading.{read-imported}
@@ -31,7 +28,7 @@ use Rattle.sheets.specs.Demands.{read-left, DemandOne, DemandTwo, Demand
 use Rattle.sheets.specs.declared.Imported.{Imported}
 use Rattle.sheets.specs.declared.Imported.the-variants as imports
 use Rattle.sheets.proofs.Spelling.{one-spelt, spelt-or-fails, one-row, rows-bound}
-use Rattle.sheets.proofs.Outcomes.{no-imported, same-refusal, same-length, Outcome, bad-text, no-room, has-room, outcome, one-outcome}
+use Rattle.sheets.proofs.Outcomes.{no-imported, same-refusal, same-length, bad-text, no-room, has-room, outcome, one-outcome}
 use Rattle.sheets.proofs.TapeMeaning.{tape-length, tape-bytes, tape-decodes, tape-played}
 
 -- ---- an answer there is

@@ -13,7 +13,7 @@ use borrow.Author.Tests.{lt-ltb, le-ltb, le-leb, lt-leb, eq-eqb, ne-eqb}
 use Rattle.seats.specs.Tape.{line-feed}
 use Rattle.sheets.specs.Rfc.{comma, quote, carriage-return}
 use Rattle.sheets.specs.Parsing.{Read, got, bad, and-then, head, rest, value, longer, begun, plain, binary, closed, quotable, further, opened, ended}
-use Rattle.sheets.specs.Reading.{read-number}
+use Rattle.sheets.specs.Working.{read-number}
 use Rattle.sheets.specs.declared.fields.Number as number-enum
 use Rattle.sheets.specs.declared.fields.Number.the-variants as numbers
 

@@ -15,7 +15,7 @@ use Rattle.seats.specs.Tape.{digits}
 use Rattle.sheets.specs.Rfc.{comma, quote, Field, Record}
 use Rattle.sheets.specs.Sheets.{Ascending, heading-fields}
 use Rattle.sheets.specs.Parsing.{got, bad, and-then, head, value, field, ended, fronted, columns, opened, at-end, heading}
-use Rattle.sheets.proofs.ReadResults.{nothing-got, passed, by-test, in-steps, in-front, and-both, no-length, begins-with, begins-with-two}
+use Rattle.sheets.proofs.ReadResults.{nothing-got, passed, by-test, in-steps, in-front, and-both, begins-with, begins-with-two}
 use Rattle.sheets.proofs.Productions.{Fields, no-field, one-field, joined-record, parted-record}
 use Rattle.sheets.proofs.DigitFields.{no-digits, plain-field, quoted-field, either-field}
 use Rattle.sheets.proofs.NumberReading.{field-sound, field-complete}
@@ -202,7 +202,7 @@ heading-complete (c ∷ cs) {l = l} g h e =
     rw (p .split, append-assoc (p .first) (p .behind) l, opened-complete (p .behind ++ l) (p .field) (fields-comma l (p .fields)), columns-complete privilege-count 0 (c ∷ cs) l (p .fields) (g .columns-below) r (omega arith) (ending-comma e) (ending-digit e), ne-eqb (suc (length cs)) 0 (λ z. omega arith), ended-complete e)
 
 -- A heading takes two bytes at least.
-pub heading-length : (cs : List ℕ) {w : List ℕ} → cs ≢ [] → Record (heading-fields cs) w → 2 ≤ length w
+heading-length : (cs : List ℕ) {w : List ℕ} → cs ≢ [] → Record (heading-fields cs) w → 2 ≤ length w
 heading-length [] z h = absurd (z refl)
 heading-length (c ∷ cs) z h =
     let p = parted-record [] (map digits (c ∷ cs)) h in

@@ -1,7 +1,7 @@
 -- Importing: one law for each way out.
 -- Assumes nothing.
 use mathlib.Core.Bool.{Bool, true, false}
-use mathlib.Core.List.{List, [], _∷_, _++_, map}
+use mathlib.Core.List.{List, [], _∷_, _++_}
 use mathlib.Core.Path.{_≡_, refl, sym, ap, ap₂, _∙_, subst}
 use Prim.Native.Nat.{ℕ, _+_, _-_, _*_, _/_, _≤_, _<_}
 use native.Mathlib.Omega.{arith}
@@ -18,7 +18,7 @@ use Rattle.seats.proofs.Written as writing
 use Rattle.sheets.specs.Sheets.{Row, Sheet, set-of, record-with, row-record, tape-of, Spells}
 use Rattle.sheets.specs.Importing.{Imported, imported, refused, filled, Imports, fails, spelt}
 use Rattle.sheets.specs.Parsing.{got, rest, rows, heading}
-use Rattle.sheets.specs.Reading.{read-columns, count-of, ColumnsRead, known-set, known-records, read-rows, Counted}
+use Rattle.sheets.specs.Working.{read-columns, count-of, ColumnsRead, known-set, known-records, read-rows, Counted}
 use Rattle.sheets.specs.declared.lines.Columns as columns-enum
 use Rattle.sheets.specs.declared.lines.Columns.the-variants as column-counts
 use Rattle.sheets.specs.declared.rows.Rows as rows-enum

@@ -15,10 +15,9 @@ use Rattle.sets.proofs.Laws.{equal-members, member-union, union-empty}
 use Rattle.graph.specs.Graph.{role-count}
 use Rattle.graph.specs.Reading.{read-set}
 use Rattle.graph.specs.declared.PrivilegeSet as privilege-set-struct
-use Rattle.graph.specs.declared.Role as role-struct
 use Rattle.sheets.specs.Sheets.{Row}
 use Rattle.sheets.specs.Parsing.{Read, got, bad, and-then, rest, field, further, ended, fronted, at-end, marks, row}
-use Rattle.sheets.specs.Reading.{read-number, read-end, read-marks, read-line, column-set, known-set, added, meant}
+use Rattle.sheets.specs.Working.{read-number, read-end, read-marks, column-set, known-set, added, meant}
 use Rattle.sheets.specs.declared.fields.Number as number-enum
 use Rattle.sheets.specs.declared.fields.Number.the-variants as numbers
 use Rattle.sheets.specs.declared.fields.LineEnd as end-enum

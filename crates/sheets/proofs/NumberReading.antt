@@ -19,7 +19,7 @@ use Rattle.sheets.proofs.ReadResults.{passed, by-test, in-steps, begins
 use Rattle.sheets.proofs.DigitFields.{digits-are, digits-first, digits-more, plain-field, quoted-field, either-field}
 
 -- ---- digits
-pub value-digit : (a : ℕ) → a < 10 → value (48 + a) ≡ a
+value-digit : (a : ℕ) → a < 10 → value (48 + a) ≡ a
 unfolding value
 value-digit a h = rw (le-leb 48 (48 + a) (omega arith), le-leb (48 + a) 57 (omega arith)) (omega arith)
 
@@ -33,7 +33,7 @@ digit-value x h = go (leb 48 x) refl (leb x 57) refl
     go false p d q = absurd (let z : value x ≡ 10 = rw p in omega arith)
 
 -- Bytes that are no digits.
-pub no-digit-quote : value quote ≡ 10
+no-digit-quote : value quote ≡ 10
 unfolding value
 no-digit-quote = refl
 

@@ -1,13 +1,13 @@
 -- What importing comes to: the text fails at a row, or the buffer has no room for its sheet's tape, or it has and holds it; and no text and buffer come to two things.
 -- Assumes nothing.
 use mathlib.Core.List.{List, _++_}
-use mathlib.Core.Path.{_≡_, refl, sym, ap, _∙_, subst}
+use mathlib.Core.Path.{_≡_, refl, sym, ap, _∙_}
 use Prim.Native.Nat.{ℕ, _+_, _*_, _<_, _≤_}
 use native.Mathlib.Decide.{decLt}
 use native.Mathlib.Omega.{arith}
 use lib.ListN.{length, drop}
 use borrow.Author.Tests.{le-leb}
-use Rattle.seats.specs.Bytes.{Filled, written, too-short, fill}
+use Rattle.seats.specs.Bytes.{Filled, written, fill}
 use Rattle.seats.proofs.Written.{unfilled}
 use Rattle.sheets.specs.Sheets.{Sheet, Spells, tape-of}
 use Rattle.sheets.specs.Importing.{Fails, Imported, imported, refused, filled, Imports, fails, spelt}

@@ -1,6 +1,6 @@
 -- Rows read one after the other: how many there are, and their records.
 -- Assumes nothing.
-use mathlib.Core.Bool.{Bool, true, false}
+use mathlib.Core.Bool.{Bool, false}
 use mathlib.Core.List.{List, [], _∷_, _++_, append-assoc, append-nil}
 use mathlib.Core.Path.{_≡_, refl, sym, ap, ap₂, _∙_, subst}
 use Prim.Native.Nat.{ℕ, _+_, _-_, _*_, _≤_, _<_}
@@ -16,7 +16,7 @@ use Rattle.seats.proofs.RecordBytes.{length-record}
 use Rattle.seats.proofs.Written.{Unwritten, unwritten-all, unwritten-length, unwritten-next, unwritten-none, piece-room}
 use Rattle.sheets.specs.Sheets.{Row, record-with}
 use Rattle.sheets.specs.Parsing.{Read, got, bad, rest, row, rows}
-use Rattle.sheets.specs.Reading.{read-line, known-set, meant, known-records, read-rows, Counted}
+use Rattle.sheets.specs.Working.{read-line, known-set, meant, known-records, read-rows, Counted}
 use Rattle.sheets.specs.declared.lines.Line as line-enum
 use Rattle.sheets.specs.declared.lines.Line.the-variants as lines
 use Rattle.sheets.specs.declared.rows.Rows.the-variants as row-counts

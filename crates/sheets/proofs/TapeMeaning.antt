@@ -2,7 +2,7 @@
 -- Assumes nothing.
 use mathlib.Core.Bool.{Bool}
 use mathlib.Core.List.{List, [], _∷_, map}
-use mathlib.Core.Path.{_≡_, refl, sym, ap, ap₂, _∙_}
+use mathlib.Core.Path.{_≡_, refl, ap, ap₂, _∙_}
 use Prim.Native.Nat.{ℕ, _*_, _^_, _<_}
 use native.Mathlib.Omega.{arith}
 use lib.ListN.{length, length-append}
@@ -13,7 +13,7 @@ use Rattle.lists.specs.Runs.{run, Each}
 use Rattle.graph.specs.Graph.{privilege-count}
 use Rattle.seats.specs.Bytes.{Bytes}
 use Rattle.seats.specs.Seats.{State}
-use Rattle.seats.specs.Calls.{Answer, Call, perform}
+use Rattle.seats.specs.Calls.{Answer, perform}
 use Rattle.seats.specs.Records.{record-length, well-formed, decode, perform-decoded, step}
 use Rattle.seats.specs.Tape.{records, joined}
 use Rattle.seats.proofs.RecordBytes.{length-record, record-bytes, add-decodes}

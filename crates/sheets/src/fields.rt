@@ -6,7 +6,7 @@ ghost use lib.ListN.{length};
 ghost use lib.Dec.{eqb};
 ghost use Rattle.sheets.specs.Rfc.{comma};
 ghost use Rattle.sheets.specs.Parsing.{and-then, head, rest, value, longer, plain, binary, closed, quotable, field, further, opened, ended};
-ghost use Rattle.sheets.specs.Reading.{read-number, read-end};
+ghost use Rattle.sheets.specs.Working.{read-number, read-end};
 
 // A number that was read, and the place behind it; or no number.
 pub(crate) enum Number {

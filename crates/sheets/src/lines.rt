@@ -7,7 +7,7 @@ ghost use Rattle.sets.specs.Sets.{union};
 ghost use Rattle.graph.specs.Graph.{privilege-count};
 ghost use Rattle.graph.specs.Reading.{read-set};
 ghost use Rattle.sheets.specs.Parsing.{rest, columns, heading, marks, row};
-ghost use Rattle.sheets.specs.Reading.{ColumnsRead, column-set, read-marks, read-line, added, meant};
+ghost use Rattle.sheets.specs.Working.{ColumnsRead, column-set, read-marks, read-line, added, meant};
 use crate::fields::LineEnd;
 use crate::fields::Number;
 use crate::fields::at_comma;

@@ -6,7 +6,7 @@ ghost use Rattle.graph.specs.Graph.{privilege-count};
 ghost use Rattle.seats.specs.Records.{record-length};
 ghost use Rattle.seats.specs.Written.{Written};
 ghost use Rattle.sheets.specs.Parsing.{rest, rows};
-ghost use Rattle.sheets.specs.Reading.{Counted, known-records};
+ghost use Rattle.sheets.specs.Working.{Counted, known-records};
 use crate::lines::Line;
 use crate::lines::read_row;
 use seats::records::RECORD;

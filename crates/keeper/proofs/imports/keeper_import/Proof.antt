@@ -1,12 +1,11 @@
 -- `keeper::imports::keeper_import` meets its contract: the answer of the importer as one number.
 -- Assumes nothing.
-use mathlib.Core.Path.{_≡_, refl, sym, ap, _∙_}
-use Prim.Native.Nat.{ℕ, _+_}
+use mathlib.Core.Path.{sym, ap}
 use native.Mathlib.Omega.{arith}
 use borrow.Author.Needs.{needs}
 use Rattle.sheets.specs.Reading.{read-imported}
 use Rattle.sheets.proofs.Outcomes.{place-bound}
-use Rattle.keeper.specs.Imports.{not-imported, import-code}
+use Rattle.keeper.specs.Imports.{import-code}
 use Rattle.keeper.proofs.imports.keeper_import.Statement.{statement}
 use Rattle.keeper.proofs.imports.keeper_import.Tie as tie
 

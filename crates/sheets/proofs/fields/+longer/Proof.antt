@@ -6,7 +6,7 @@ use borrow.Fn.Kinds.{In}
 use borrow.Fn.PlainCycle.{Measures, is, falls, and}
 use lib.ListN.{length}
 use native.Mathlib.Omega.{arith}
-use Rattle.sheets.specs.Reading.{read-number}
+use Rattle.sheets.specs.Working.{read-number}
 use Rattle.sheets.proofs.FieldLaws.{longer-done, longer-high, longer-next}
 use Rattle.sheets.proofs.fields.longer.Reads as longer
 use Rattle.sheets.proofs.fields.longer.Kinds as longer-kinds

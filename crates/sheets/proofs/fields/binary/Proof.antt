@@ -2,7 +2,7 @@
 -- Assumes nothing.
 use native.Mathlib.Omega.{arith}
 use borrow.Author.Needs.{needs}
-use Rattle.sheets.specs.Reading.{read-number}
+use Rattle.sheets.specs.Working.{read-number}
 use Rattle.sheets.proofs.FieldLaws.{binary-no, binary-read}
 use Rattle.sheets.proofs.fields.binary.Statement.{statement}
 use Rattle.sheets.proofs.fields.binary.Tie as tie

@@ -1,7 +1,7 @@
 -- `fields::closed` meets its contract: one law for each way out.
 -- Assumes nothing.
 use borrow.Author.Needs.{needs}
-use Rattle.sheets.specs.Reading.{read-number}
+use Rattle.sheets.specs.Working.{read-number}
 use Rattle.sheets.proofs.FieldLaws.{closed-no, closed-read, closed-open}
 use Rattle.sheets.proofs.fields.closed.Statement.{statement}
 use Rattle.sheets.proofs.fields.closed.Tie as tie

@@ -1,7 +1,7 @@
 -- `fields::ended` meets its contract: one law for each way out.
 -- Assumes nothing.
 use borrow.Author.Needs.{needs}
-use Rattle.sheets.specs.Reading.{read-end}
+use Rattle.sheets.specs.Working.{read-end}
 use Rattle.sheets.proofs.FieldLaws.{ended-out, ended-no, ended-half, ended-line}
 use Rattle.sheets.proofs.fields.ended.Statement.{statement}
 use Rattle.sheets.proofs.fields.ended.Tie as tie

@@ -1,7 +1,7 @@
 -- `fields::further` meets its contract: a mark where a comma stands before it.
 -- Assumes nothing.
 use borrow.Author.Needs.{needs}
-use Rattle.sheets.specs.Reading.{read-number}
+use Rattle.sheets.specs.Working.{read-number}
 use Rattle.sheets.proofs.FieldLaws.{further-read, further-no}
 use Rattle.sheets.proofs.fields.further.Statement.{statement}
 use Rattle.sheets.proofs.fields.further.Tie as tie

@@ -2,7 +2,7 @@
 -- Assumes nothing.
 use native.Mathlib.Omega.{arith}
 use borrow.Author.Needs.{needs}
-use Rattle.sheets.specs.Reading.{read-number}
+use Rattle.sheets.specs.Working.{read-number}
 use Rattle.sheets.proofs.FieldLaws.{plain-no, plain-high, plain-zero, plain-longer}
 use Rattle.sheets.proofs.fields.plain.Statement.{statement}
 use Rattle.sheets.proofs.fields.plain.Tie as tie

@@ -1,6 +1,6 @@
 -- `lines::read_columns` meets its contract: the columns so far stand in the array, and with those that are left they make the whole.
 -- Assumes nothing.
-use Prim.Native.Nat.{_-_, _<_}
+use Prim.Native.Nat.{_-_}
 use native.Mathlib.Omega.{arith}
 use borrow.Author.Needs.{needs}
 use Rattle.graph.specs.Graph.{privilege-count}

@@ -4,7 +4,7 @@ use Prim.Native.Nat.{_-_}
 use native.Mathlib.Omega.{arith}
 use borrow.Author.Needs.{needs}
 use Rattle.graph.specs.Reading.{read-set}
-use Rattle.sheets.specs.Reading.{read-marks}
+use Rattle.sheets.specs.Working.{read-marks}
 use Rattle.sheets.proofs.LineLaws.{Marking, marking-start, marking-no, marking-next, marking-done}
 use Rattle.sheets.proofs.lines.read_marks.Statement.{statement}
 use Rattle.sheets.proofs.lines.read_marks.Tie as tie

@@ -1,7 +1,7 @@
 -- `lines::read_row` meets its contract: one law for each way out.
 -- Assumes nothing.
 use borrow.Author.Needs.{needs}
-use Rattle.sheets.specs.Reading.{read-line}
+use Rattle.sheets.specs.Working.{read-line}
 use Rattle.sheets.proofs.LineLaws.{row-no, row-unmarked, row-open, row-read}
 use Rattle.sheets.proofs.lines.read_row.Statement.{statement}
 use Rattle.sheets.proofs.lines.read_row.Tie as tie
