@@ -1,4 +1,4 @@
--- The bytes of a record: how many there are, how those of kind 2 are written, and what these decode to.
+-- The bytes of a record: how many there are, that its fields are read back, how those of kind 2 are written, and what these decode to.
 -- Assumes nothing.
 use mathlib.Core.List.{List, [], _∷_, _++_}
 use mathlib.Core.Path.{_≡_, refl, ap}
@@ -43,6 +43,16 @@ pub record-bytes : (k : ℕ) (f : Fields) → k < 256 → f .a < 256 → f .b < 
 unfolding record-of Bytes
 record-bytes k f h i j =
     (h, (i, (j, bytes-append (bytes-of 5 0) _ (bytes-are 5 0) (bytes-append (bytes-of 8 (f .x)) _ (bytes-are 8 (f .x)) (bytes-append (bytes-of 8 (f .y)) _ (bytes-are 8 (f .y)) (bytes-are 8 (f .z)))))))
+
+-- Its fields are read back.
+pub record-fields : (k : ℕ) (f : Fields) → f .x < 2 ^ 64 → f .y < 2 ^ 64 → f .z < 2 ^ 64 → fields (record-of k f) ≡ f
+unfolding record-of bytes-of fields
+record-fields k f x y z =
+    let front = k ∷ f .a ∷ f .b ∷ bytes-of 5 0 in
+    let p = number-behind 8 (f .x) 8 front (bytes-of 8 (f .y) ++ bytes-of 8 (f .z)) refl (omega arith) in
+    let q = number-behind 8 (f .y) 16 (front ++ bytes-of 8 (f .x)) (bytes-of 8 (f .z)) refl (omega arith) in
+    let r = number-behind 8 (f .z) 24 (front ++ (bytes-of 8 (f .x) ++ bytes-of 8 (f .y))) [] refl (omega arith) in
+    λ i. record { a = f .a; b = f .b; x = p i; y = q i; z = r i }
 
 -- A record of kind 2: the kind, the role, six zeros, the set, sixteen zeros.
 pub add-bytes : (role own : ℕ) → (2 ∷ []) ++ ((role ∷ []) ++ (bytes-of 6 0 ++ (bytes-of 8 own ++ bytes-of 16 0))) ≡ record-of 2 (fields-of role 0 own 0 0)

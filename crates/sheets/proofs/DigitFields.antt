@@ -9,11 +9,11 @@ use native.Mathlib.Decide.{decLt}
 use native.Mathlib.Nat.{not-suc-le-zero}
 use native.Mathlib.Omega.{arith}
 use lib.ListN.{length, length-append}
-use borrow.Author.Tests.{le-leb, ne-eqb}
+use borrow.Author.Tests.{le-leb, lt-leb}
 use Rattle.lists.specs.Runs.{Each}
 use Rattle.seats.specs.Tape.{digits}
 use Rattle.seats.proofs.Digits.{digits-small, digits-large}
-use Rattle.sheets.specs.Rfc.{comma, quote, text-data, NonEscaped, no-text, one-text, Escaped, no-more, more-text, more-comma, more-return, more-feed, two-quotes, Field, non-escaped, escaped}
+use Rattle.sheets.specs.Rfc.{quote, text-data, NonEscaped, no-text, one-text, Escaped, no-more, more-text, more-comma, more-return, more-feed, two-quotes, Field, non-escaped, escaped}
 use Rattle.sheets.specs.Parsing.{head}
 
 -- ---- digits
@@ -66,7 +66,7 @@ digits-more v d h k =
 -- ---- what RFC 4180 makes of them
 digit-text : (x : ℕ) → 48 ≤ x → x ≤ 57 → text-data x ≡ true
 unfolding text-data
-digit-text x h k = rw (le-leb 32 x (omega arith), le-leb x 126 (omega arith), ne-eqb x quote (λ z. omega arith), ne-eqb x comma (λ z. omega arith))
+digit-text x h k = rw (lt-leb x 33 (omega arith), lt-leb x 43 (omega arith), le-leb 32 x (omega arith), le-leb 35 x (omega arith), le-leb 45 x (omega arith), le-leb x 126 (omega arith))
 
 plain-digits : (l : List ℕ) → Digits l → NonEscaped l
 unfolding Each

@@ -1,4 +1,5 @@
 pub mod ReadResults
+pub mod RfcExamples
 pub mod Productions
 pub mod DigitFields
 pub mod NumberReading

@@ -1,8 +1,8 @@
 -- RFC 4180, section 2: the text of a field, a record and a file, production by production, each beside the content that it stands for.
-use mathlib.Core.Bool.{Bool, not, _&&_, _||_}
+use mathlib.Core.Bool.{Bool, _&&_, _||_}
 use mathlib.Core.List.{List, [], _∷_, _++_}
 use Prim.Native.Nat.{ℕ}
-use lib.Dec.{eqb, leb, T}
+use lib.Dec.{leb, T}
 use Rattle.seats.specs.Tape.{line-feed}
 
 abbrev pub comma : ℕ
@@ -14,9 +14,9 @@ quote = 34
 abbrev pub carriage-return : ℕ
 carriage-return = 13
 
--- TEXTDATA: a byte from the space to the tilde that is neither a quote nor a comma.
+-- TEXTDATA = %x20-21 / %x23-2B / %x2D-7E: a byte from the space to the tilde that is neither a quote nor a comma.
 unfoldable pub text-data : ℕ → Bool
-text-data x = (leb 32 x && leb x 126) && not (eqb x quote || eqb x comma)
+text-data x = (leb 32 x && leb x 33) || ((leb 35 x && leb x 43) || (leb 45 x && leb x 126))
 
 -- non-escaped = *TEXTDATA: it is its own content.
 pub data NonEscaped : List ℕ → Type 0 where
