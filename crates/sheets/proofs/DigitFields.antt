@@ -1,7 +1,6 @@
 -- Fields whose content is digits: such a field is the digits, plain or between quotes.
 -- Assumes nothing.
 use mathlib.Core.List.{List, [], _∷_, _++_}
-use mathlib.Core.Bool.{true}
 use mathlib.Core.Logic.{_⊎_, inl, inr}
 use mathlib.Core.Path.{_≡_, refl, sym, ap, _∙_, subst}
 use Prim.Native.Nat.{ℕ, zero, suc, _+_, _*_, _/_, _%_, _<_, _≤_}
@@ -9,11 +8,10 @@ use native.Mathlib.Decide.{decLt}
 use native.Mathlib.Nat.{not-suc-le-zero}
 use native.Mathlib.Omega.{arith}
 use lib.ListN.{length, length-append}
-use borrow.Author.Tests.{le-leb, lt-leb}
 use Rattle.lists.specs.Runs.{Each}
 use Rattle.seats.specs.Tape.{digits}
 use Rattle.seats.proofs.Digits.{digits-small, digits-large}
-use Rattle.sheets.specs.Rfc.{quote, text-data, NonEscaped, no-text, one-text, Escaped, no-more, more-text, more-comma, more-return, more-feed, two-quotes, Field, non-escaped, escaped}
+use Rattle.sheets.specs.Rfc.{quote, TextData, behind-comma, NonEscaped, no-text, one-text, Escaped, no-more, more-text, more-comma, more-return, more-feed, two-quotes, Field, non-escaped, escaped}
 use Rattle.sheets.specs.Parsing.{head}
 
 -- ---- digits
@@ -64,19 +62,18 @@ digits-more v d h k =
     digits-large (10 * v + d) (omega arith) ∙ rw (q, r)
 
 -- ---- what RFC 4180 makes of them
-digit-text : (x : ℕ) → 48 ≤ x → x ≤ 57 → text-data x ≡ true
-unfolding text-data
-digit-text x h k = rw (lt-leb x 33 (omega arith), lt-leb x 43 (omega arith), le-leb 32 x (omega arith), le-leb 35 x (omega arith), le-leb 45 x (omega arith), le-leb x 126 (omega arith))
+digit-text : {x : ℕ} → 48 ≤ x → x ≤ 57 → TextData x
+digit-text h k = behind-comma (omega arith) (omega arith)
 
 plain-digits : (l : List ℕ) → Digits l → NonEscaped l
 unfolding Each
 plain-digits [] p = no-text
-plain-digits (x ∷ l) p = one-text {x = x} (rw (digit-text x (p .0 .0) (p .0 .1)) tt) (plain-digits l (p .1))
+plain-digits (x ∷ l) p = one-text (digit-text (p .0 .0) (p .0 .1)) (plain-digits l (p .1))
 
 quoted-digits : (l : List ℕ) → Digits l → Escaped l l
 unfolding Each
 quoted-digits [] p = no-more
-quoted-digits (x ∷ l) p = more-text {x = x} (rw (digit-text x (p .0 .0) (p .0 .1)) tt) (quoted-digits l (p .1))
+quoted-digits (x ∷ l) p = more-text (digit-text (p .0 .0) (p .0 .1)) (quoted-digits l (p .1))
 
 -- Between quotes digits stand for themselves.
 digits-between : {w t : List ℕ} → Digits w → Escaped w t → t ≡ w

@@ -1,5 +1,5 @@
 pub mod ReadResults
-pub mod RfcExamples
+pub mod Rfc4180
 pub mod Productions
 pub mod DigitFields
 pub mod NumberReading

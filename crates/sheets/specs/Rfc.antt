@@ -1,8 +1,6 @@
 -- RFC 4180, section 2: the text of a field, a record and a file, production by production, each beside the content that it stands for.
-use mathlib.Core.Bool.{Bool, _&&_, _||_}
 use mathlib.Core.List.{List, [], _∷_, _++_}
-use Prim.Native.Nat.{ℕ}
-use lib.Dec.{leb, T}
+use Prim.Native.Nat.{ℕ, _≤_}
 use Rattle.seats.specs.Tape.{line-feed}
 
 abbrev pub comma : ℕ
@@ -14,19 +12,21 @@ quote = 34
 abbrev pub carriage-return : ℕ
 carriage-return = 13
 
--- TEXTDATA = %x20-21 / %x23-2B / %x2D-7E: a byte from the space to the tilde that is neither a quote nor a comma.
-unfoldable pub text-data : ℕ → Bool
-text-data x = (leb 32 x && leb x 33) || ((leb 35 x && leb x 43) || (leb 45 x && leb x 126))
+-- TEXTDATA = %x20-21 / %x23-2B / %x2D-7E: from the space to the tilde, but no quote and no comma.
+pub data TextData (x : ℕ) : Type 0 where
+  before-quote : 32 ≤ x → x ≤ 33 → TextData x
+  before-comma : 35 ≤ x → x ≤ 43 → TextData x
+  behind-comma : 45 ≤ x → x ≤ 126 → TextData x
 
 -- non-escaped = *TEXTDATA: it is its own content.
 pub data NonEscaped : List ℕ → Type 0 where
   no-text : NonEscaped []
-  one-text : {x : ℕ} {w : List ℕ} → T (text-data x) → NonEscaped w → NonEscaped (x ∷ w)
+  one-text : {x : ℕ} {w : List ℕ} → TextData x → NonEscaped w → NonEscaped (x ∷ w)
 
 -- *(TEXTDATA / COMMA / CR / LF / 2DQUOTE): the content between two quotes, and its text; two quotes stand for one.
 pub data Escaped : List ℕ → List ℕ → Type 0 where
   no-more : Escaped [] []
-  more-text : {x : ℕ} {w t : List ℕ} → T (text-data x) → Escaped w t → Escaped (x ∷ w) (x ∷ t)
+  more-text : {x : ℕ} {w t : List ℕ} → TextData x → Escaped w t → Escaped (x ∷ w) (x ∷ t)
   more-comma : {w t : List ℕ} → Escaped w t → Escaped (comma ∷ w) (comma ∷ t)
   more-return : {w t : List ℕ} → Escaped w t → Escaped (carriage-return ∷ w) (carriage-return ∷ t)
   more-feed : {w t : List ℕ} → Escaped w t → Escaped (line-feed ∷ w) (line-feed ∷ t)
