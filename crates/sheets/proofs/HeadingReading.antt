@@ -97,8 +97,18 @@ no-columns {low} {l} {cs} {t} e =
     let b : l ≡ t = cc in
     subst (λ (x : List ℕ). ColumnsFound low l x t) a (record { word = []; fields = no-field; below = tt; rises = tt; split = b })
 
+one-column : {low n : ℕ} {l w u m t : List ℕ} → head l ≡ comma → drop 1 l ≡ w ++ u → Field (digits n) w → n < privilege-count → low ≤ n → ColumnsFound (suc n) u m t → ColumnsFound low l (n ∷ m) t
+unfolding Each Rising
+one-column {l = l} {w = w} {t = t} h s f b r c = record {
+  word = comma ∷ (w ++ c .word);
+  fields = one-field f (c .fields);
+  below = (b, c .below);
+  rises = (r, c .rises);
+  split = begins-with l h (omega arith) ∙ ap (λ (m : List ℕ). comma ∷ m) (s ∙ ap (λ (x : List ℕ). w ++ x) (c .split) ∙ sym (append-assoc w (c .word) t));
+}
+
 columns-sound : (k low : ℕ) (l : List ℕ) {cs t : List ℕ} → columns k low l ≡ got cs t → ColumnsFound low l cs t
-unfolding columns Each Rising
+unfolding columns
 columns-sound zero low l {cs} {t} e = by (by-test (eqb (head l) comma) e)
   where
     by : ((eqb (head l) comma ≡ true) × (bad ≡ got cs t)) ⊎ ((eqb (head l) comma ≡ false) × (got [] l ≡ got cs t)) → ColumnsFound low l cs t
@@ -114,14 +124,7 @@ columns-sound (suc k) low l {cs} {t} e = by (λ n u m i. columns-sound k n u i) 
         let (w, f, b, s) = field-sound privilege-count (drop 1 l) p in
         let h = passed (leb low n) q in
         let (m, i, j) = in-front n (columns k (suc n) u) (h .1) in
-        let c = again (suc n) u m i in
-        subst (λ (x : List ℕ). ColumnsFound low l x t) (sym j) (record {
-          word = comma ∷ (w ++ c .word);
-          fields = one-field f (c .fields);
-          below = (b, c .below);
-          rises = (leb-true low n (h .0), c .rises);
-          split = begins-with l (eqb-true (head l) comma (g .0)) (omega arith) ∙ ap (λ (m : List ℕ). comma ∷ m) (s ∙ ap (λ (x : List ℕ). w ++ x) (c .split) ∙ sym (append-assoc w (c .word) t));
-        })
+        subst (λ (x : List ℕ). ColumnsFound low l x t) (sym j) (one-column (eqb-true (head l) comma (g .0)) s f b (leb-true low n (h .0)) (again (suc n) u m i))
     by again (inr g) = no-columns (g .1)
 
 columns-complete : (k low : ℕ) (cs : List ℕ) {w : List ℕ} (t : List ℕ) → Fields (map digits cs) w → Each (λ c. c < privilege-count) cs → Rising low cs → length cs ≤ k → (head t ≡ comma → ⊥) → value (head t) ≡ 10 → columns k low (w ++ t) ≡ got cs t
