@@ -122,7 +122,7 @@ module _ (part : Part) (present : ℕ) where
     part-done w = record { tested = w .tested; filled = λ _. sym (store-none part (roles, table)) ∙ w .filled }
 
 -- ---- one entry stored
-union-assoc : (s t u : ℕ) → union (union s t) u ≡ union s (union t u)
+pub union-assoc : (s t u : ℕ) → union (union s t) u ≡ union s (union t u)
 union-assoc s t u =
     equal-members (union (union s t) u) (union s (union t u))
     (λ n. simp member-union (or-assoc (member n s) (member n t) (member n u)))

@@ -1,6 +1,6 @@
 -- Rows read at a place, the marks one after the other: one law for each way out.
 -- Assumes nothing.
-use mathlib.Core.Bool.{Bool, true, false, _||_}
+use mathlib.Core.Bool.{Bool}
 use mathlib.Core.List.{List, [], _∷_}
 use mathlib.Core.Path.{_≡_, refl, sym, ap, ap₂, _∙_}
 use Prim.Native.Nat.{ℕ, suc, _+_, _-_, _≤_, _<_}
@@ -10,11 +10,12 @@ use lib.ListN.{length, getD, take, drop, drop-of-length-le}
 use lib.Seq.{drop-cons, getD-take, length-take-le}
 use lib.Dec.{eqb}
 use lib.Bits.{or-comm}
-use Rattle.sets.specs.Sets.{empty, member, union}
-use Rattle.sets.proofs.Laws.{equal-members, member-union, union-empty}
+use Rattle.sets.specs.Sets.{empty, union}
+use Rattle.sets.proofs.Laws.{union-empty}
 use Rattle.graph.specs.Graph.{role-count}
 use Rattle.graph.specs.Reading.{read-set}
 use Rattle.graph.specs.declared.PrivilegeSet as privilege-set-struct
+use Rattle.seats.proofs.EntryReading.{union-assoc}
 use Rattle.sheets.specs.Sheets.{Row}
 use Rattle.sheets.specs.Parsing.{Read, got, bad, and-then, rest, field, further, ended, fronted, at-end, marks, row}
 use Rattle.sheets.specs.Working.{read-number, read-end, read-marks, column-set, known-set, added, meant}
@@ -26,17 +27,6 @@ use Rattle.sheets.specs.declared.lines.Marks as marks-enum
 use Rattle.sheets.specs.declared.lines.Marks.the-variants as markings
 
 -- ---- sets
-or-assoc : (a b c : Bool) → (a || b) || c ≡ a || (b || c)
-or-assoc true b c = refl
-or-assoc false b c = refl
-
-union-assoc : (s t u : ℕ) → union (union s t) u ≡ union s (union t u)
-union-assoc s t u = equal-members _ _ (λ n.
-    member-union n (union s t) u
-    ∙ ap (λ (b : Bool). b || member n u) (member-union n s t)
-    ∙ or-assoc (member n s) (member n t) (member n u)
-    ∙ sym (member-union n s (union t u) ∙ ap (λ (b : Bool). member n s || b) (member-union n t u)))
-
 union-left : (x : ℕ) → union empty x ≡ x
 unfolding union
 union-left x = or-comm 0 x ∙ union-empty x
