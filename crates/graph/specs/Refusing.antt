@@ -50,7 +50,7 @@ First (c ∷ l) n p = (T (c .holds) × (c .number ≡ n) × (c .place ≡ p)) �
 
 -- Of the conditions that hold, the first in this list of numbers answers.
 unfoldable pub refusal-order : List ℕ
-refusal-order = 1 ∷ 2 ∷ 3 ∷ 4 ∷ 5 ∷ 20 ∷ 21 ∷ 22 ∷ 23 ∷ 31 ∷ 24 ∷ 25 ∷ 26 ∷ 27 ∷ 28 ∷ 29 ∷ 30 ∷ []
+refusal-order = 1 ∷ 2 ∷ 3 ∷ 4 ∷ 5 ∷ 20 ∷ 21 ∷ 22 ∷ 23 ∷ 31 ∷ 24 ∷ 25 ∷ 26 ∷ 27 ∷ 28 ∷ 29 ∷ 30 ∷ 34 ∷ 35 ∷ []
 
 -- An order has the number n.
 unfoldable pub listed : List ℕ → ℕ → Bool

@@ -31,7 +31,7 @@ pub fn ordinary_roles(roles: u64) -> u64
 }
 
 // The roles that can lie above another: the ordinary ones and MaxRole.
-pub(crate) fn senior_roles(roles: u64) -> u64
+pub fn senior_roles(roles: u64) -> u64
     ensures { λ v. ⌜ v ≡ union (difference roles end-roles) max-alone ⌝ }
 {
     sets::union(ordinary_roles(roles), MAX_ROLE)
@@ -67,7 +67,7 @@ fn lower(roles: u64, sets: &[u64], s: usize) -> u64
 }
 
 // By role number, the roles below each role.
-fn lowers(roles: u64, sets: &[u64]) -> [u64; 64]
+pub fn lowers(roles: u64, sets: &[u64]) -> [u64; 64]
     ensures { λ v. ⌜ v ≡ table role-count (roles-below (drawn-from roles (now (sets .entry)))) ⌝ }
 {
     let mut found = [0u64; 64];
@@ -97,7 +97,7 @@ pub(crate) fn direct_sets(all: u64, sets: &[u64], juniors: &[u64; 64]) -> SetTab
 }
 
 // The roles below some member of `all`, by a table of the roles below each.
-fn under_some(lower: &[u64; 64], all: u64) -> u64
+pub fn under_some(lower: &[u64; 64], all: u64) -> u64
     ensures { λ v. ⌜ v ≡ gather role-count (λ r. member r all) (at (now (lower .entry))) ⌝ }
 {
     let mut found: u64 = 0;
@@ -149,7 +149,7 @@ pub fn edge_count(roles: u64, sets: &[u64]) -> u32
 }
 
 // Whether the role r lies below s.
-fn lies_below(roles: u64, sets: &[u64], r: usize, s: usize) -> bool
+pub fn lies_below(roles: u64, sets: &[u64], r: usize, s: usize) -> bool
     ensures { λ v. ⌜ v ≡ below (drawn-from roles (now (sets .entry))) r s ⌝ }
 {
     let high = sets::member(s, senior_roles(roles));

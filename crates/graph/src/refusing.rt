@@ -175,8 +175,8 @@ fn judge_withdraw(roles: u64, sets: &[u64], a: Role, b: Privilege) -> Verdict
     Verdict::Passed
 }
 
-// What kinds 6 and 7 want of the two roles that they name: refusals 2, 3, 5 and 21.
-fn judge_two_roles(roles: u64, a: Role, b: Role) -> Verdict
+// What kinds 6, 7 and 13 want of the two roles that they name: refusals 2, 3, 5 and 21.
+pub fn judge_two_roles(roles: u64, a: Role, b: Role) -> Verdict
     ensures { λ v. let g = drawn-from roles [] in ⌜ read-verdict v ≡ verdict (no-role-number (a .0) ∷ no-role-number (b .0) ∷ end-role (a .0) ∷ end-role (b .0) ∷ edge-to-itself (a .0) (b .0) ∷ role-absent g (a .0) ∷ role-absent g (b .0) ∷ []) ⌝ }
 {
     let r = a.0;

@@ -7,7 +7,7 @@ use crate::Answer;
 use graph::Refusal;
 
 // A refusal as an answer.
-pub(crate) fn refusal(number: u8, place: u8) -> Answer
+pub fn refusal(number: u8, place: u8) -> Answer
     ensures { λ r. ⌜ read-answer r ≡ refused number place ⌝ }
 {
     Answer::Refused(Refusal { number, place })

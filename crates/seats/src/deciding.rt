@@ -94,7 +94,7 @@ fn decide_lift<'a>(
 }
 
 // What refuses a seat and a role by their numbers and the roles present.
-fn judge_seat(roles: u64, a: Seat, b: Role) -> Verdict
+pub fn judge_seat(roles: u64, a: Seat, b: Role) -> Verdict
     ensures { λ v. ⌜ read-verdict v ≡ verdict (seat-role-checks (drawn-from roles []) (a .0) (b .0)) ⌝ }
 {
     if 64 <= a.0 {

@@ -4,11 +4,11 @@ ghost use mathlib.Core.Bool.{cond, _&&_};
 ghost use mathlib.Core.List.{[], _∷_};
 ghost use Prim.Native.Nat.{_≤_, min};
 ghost use lib.ListN.{length, getD};
-ghost use lib.Dec.{leb};
+ghost use lib.Dec.{leb, eqb};
 ghost use Rattle.graph.specs.Reading.{read-set, read-removal, read-change};
 ghost use Rattle.seats.specs.Bytes.{number-at, fill};
 ghost use Rattle.seats.specs.Calls.{change};
-ghost use Rattle.seats.specs.Records.{malformed, well-formed, record-of, all-empty, kinds, decode};
+ghost use Rattle.seats.specs.Records.{record-length, malformed, well-formed, fields, record-of, all-empty, unused as no-sets, kinds, decode};
 ghost use Rattle.seats.specs.Reading.{read-call, read-request, read-decoded, read-filled};
 ghost use Rattle.seats.specs.Working.{fields-of};
 use crate::Call;
@@ -140,6 +140,19 @@ pub fn decode(bytes: &[u8]) -> Decoded
         word(bytes, 16),
         word(bytes, 24),
     )
+}
+
+// Whether any bytes have a record's length, zeros in bytes 3 to 7 and no sets.
+pub fn names_no_set(bytes: &[u8]) -> bool
+    ensures { λ r. let l = now (bytes .entry) in ⌜ r ≡ (eqb (length l) record-length && (eqb (number-at 5 3 l) 0 && no-sets 0 (fields l))) ⌝ }
+{
+    if bytes.len() != RECORD {
+        return false;
+    }
+    if spare(bytes) != 0 {
+        return false;
+    }
+    unused(set_at(bytes, 8), word(bytes, 16), word(bytes, 24))
 }
 
 // The record that adds a role by its privileges, kind 2, at the buffer's front; or refusal 9 where the buffer is shorter.

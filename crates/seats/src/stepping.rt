@@ -46,7 +46,7 @@ fn take_change<'a>(
 }
 
 // A request on lent conflicts and seats.
-fn take_request(
+pub fn take_request(
     roles: u64,
     sets: &[u64; 64],
     conflicts: &mut [u64; 64],

@@ -1,0 +1,13 @@
+pub mod Sittings
+pub mod Calls
+pub mod Records
+pub mod Images
+pub mod Lists
+pub mod Tape
+pub mod Invariants
+pub mod ListTheorem
+pub mod Reading
+pub mod Working
+pub mod Promises
+pub mod Demands
+pub mod Computes
