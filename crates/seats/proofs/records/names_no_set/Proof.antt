@@ -38,5 +38,5 @@ returns-3 c =
     (eq-eqb _ _ (b .before .before .if1 .left), eq-eqb _ _ (sym (b .before .spare .ensures) ∙ b .if2 .left))
     (c .unused .ensures ∙ ap (unused 0) f)
 
-pub names_no_set-spec : {M : Type 1} → statement M
-names_no_set-spec = tie.close (tie.spec returns spare-requires returns-2 set-at-requires word-requires word-requires-2 (λ c κs. tt) returns-3)
+pub names-no-set-spec : {M : Type 1} → statement M
+names-no-set-spec = tie.close (tie.spec returns spare-requires returns-2 set-at-requires word-requires word-requires-2 (λ c κs. tt) returns-3)
