@@ -9,23 +9,25 @@
  * The functions that end in `);` below are proved: each gives exactly what its definition says, for any block, any
  * lengths and any bytes. The inline functions and the macros are not proved; tests/c compares them with the others.
  *
- * The block. The caller owns 193 words of 64 bits that hold the whole state; nothing is allocated, and nothing is to be
+ * The block. The caller owns 321 words of 64 bits that hold the whole state; nothing is allocated, and nothing is to be
  * freed. Word 0 has the ordinary roles, words 1 to 64 the effective sets of roles 0 to 63, words 65 to 128 under each
- * privilege the higher ones in conflict with it, words 129 to 192 the roles of seats 0 to 63. A set is a word with member
- * n at bit n. A copy of the words is a copy of the state.
+ * privilege the higher ones in conflict with it, words 129 to 192 the roles of seats 0 to 63: these 193 words an image
+ * keeps. Words 193 to 256 have under each role the higher ones that it excludes, words 257 to 320 the active roles of
+ * seats 0 to 63: no image keeps these, and keeper_fresh and an accepted keeper_load clear them. A set is a word with
+ * member n at bit n. A copy of the words is a copy of the state.
  * - keeper_fresh comes first, or a keeper_load that is accepted. A block that nobody has initialised holds whatever its
  *   words say, and keeper_may answers by them. A refused load keeps the words as they are, so it initialises nothing.
- * - In a longer block the words from 193 on are never touched. A shorter one holds no state: nothing is touched, an answer
+ * - In a longer block the words from 321 on are never touched. A shorter one holds no state: nothing is touched, an answer
  *   is then KEEPER_NO_STATE, a set or a count 0, and a test false.
  *
  * Pointers. Each comes with its length, in words for a block and in bytes elsewhere, and that much must be there; null is
  * fine with length 0. A block is aligned as a uint64_t is; bytes need no alignment. A block or a buffer that is written
  * must not overlap what else is given to the same call. No pointer is kept after the call.
  *
- * Numbers. Roles, privileges and seats are numbered 0 to 63. keeper_may and the functions that make a record take any
- * number, and no number above 63 is taken for another: it is answered no, or refused with 2. Where a parameter is a
- * uint8_t, C narrows a larger number before the call, so that 256 would arrive as 0: test it first, or let -Wconversion
- * tell. A byte above 63 has no role, privilege or seat: its set is empty, and its test false.
+ * Numbers. Roles, privileges and seats are numbered 0 to 63. keeper_may, keeper_may_active and the functions that make a
+ * record take any number, and no number above 63 is taken for another: it is answered no, or refused with 2. Where a
+ * parameter is a uint8_t, C narrows a larger number before the call, so that 256 would arrive as 0: test it first, or let
+ * -Wconversion tell. A byte above 63 has no role, privilege or seat: its set is empty, and its test false.
  *
  * Threads. There is no global state. Calls on different blocks may run at once; on one block either any number of calls
  * that take it as const, or one other call. A call takes at most KEEPER_STACK bytes of stack, as measured by tests/c, and
@@ -49,7 +51,7 @@ extern "C" {
 #define KEEPER_VERSION "0.1.0"
 
 /* How many words a state takes. */
-#define KEEPER_WORDS 193
+#define KEEPER_WORDS 321
 
 /* How many bytes a record has. */
 #define KEEPER_RECORD 32
@@ -72,7 +74,8 @@ extern "C" {
 /* ---- answers ----
  *
  * An answer is 0 for accepted, 1 or 0 for an ask's yes or no, or 256 times a refusal's number plus its place. So
- * `if (keeper_ask(..))` is a mistake: a refusal is not 0 either. Ask keeper_may, or compare with 1.
+ * `if (keeper_ask(..))` is a mistake: a refusal is not 0 either. Ask keeper_may, or compare with 1; likewise
+ * keeper_may_active for keeper_ask_active.
  * What keeper_save and keeper_image_length give is a length where it is below KEEPER_NOT_SAVED, and otherwise
  * KEEPER_NOT_SAVED plus an answer, which is no image's length. What keeper_import gives stands under "sheets" below.
  */
@@ -97,7 +100,7 @@ extern "C" {
  * buffer untouched. 32 and 33 are importing's own, 32 before 33, and no other function gives them.
  * "First" means a, then b, then the juniors, then the seniors, a set read from bit 0. */
 enum keeper_refusal {
-    /* Not 32 bytes, a kind outside 1 to 12, a non-zero unused field, b above 1 in kind 3. Place 0. */
+    /* Not 32 bytes, a kind outside 1 to 15, a non-zero unused field, b above 1 in kind 3. Place 0. */
     KEEPER_MALFORMED = 1,
     /* A number above 63. Place: the first. */
     KEEPER_UNKNOWN_NUMBER = 2,
@@ -105,7 +108,7 @@ enum keeper_refusal {
     KEEPER_END_ROLE = 3,
     /* A privilege in conflict with itself. Place: it. */
     KEEPER_SAME_PRIVILEGE = 4,
-    /* A role as its own junior or senior. Place: it. */
+    /* A role as its own junior or senior, or to exclude itself. Place: it. */
     KEEPER_SAME_ROLE = 5,
     /* No image ends these bytes: fewer than 16, or a distance that is wrong. Place 0. */
     KEEPER_NO_IMAGE = 6,
@@ -119,9 +122,9 @@ enum keeper_refusal {
     KEEPER_ROLE_PRESENT = 20,
     /* Another named role is absent. Place: the first. */
     KEEPER_ROLE_ABSENT = 21,
-    /* Already so: granted, below, declared, assigned. Place: a. */
+    /* Already so: granted, below, declared, assigned, excluded, active. Place: a. */
     KEEPER_ALREADY_SO = 22,
-    /* Not so: not held at all, no drawn edge, not declared, not assigned. Place: a. */
+    /* Not so: not held at all, no drawn edge, not declared, not assigned, not active. Place: a. */
     KEEPER_NOT_SO = 23,
     /* The role has the privilege through a junior: effective but not direct. Place: the role. */
     KEEPER_THROUGH_JUNIOR = 31,
@@ -139,6 +142,11 @@ enum keeper_refusal {
     KEEPER_ROLE_CONFLICT = 29,
     /* A seat would hold a declared pair. Place: the lowest such seat. */
     KEEPER_SEAT_CONFLICT = 30,
+    /* No role of the seat reaches the role to be switched on: none is it or lies above it. Place: the seat. */
+    KEEPER_NOT_REACHED = 34,
+    /* Two roles that exclude each other would be joined by a path, or one seat's active roles would reach both. Place: the
+     * lower role of the lowest such pair. */
+    KEEPER_EXCLUDED = 35,
     /* A text that is no sheet, or a number in it that is out of range. Place: the first such row, the heading being 1. */
     KEEPER_BAD_SHEET = 32,
     /* The buffer is shorter than the tape. Place 0. */
@@ -154,7 +162,7 @@ static inline const char *keeper_refusal_text(uint32_t number)
     case KEEPER_UNKNOWN_NUMBER: return "a number is above 63";
     case KEEPER_END_ROLE: return "an end role is named";
     case KEEPER_SAME_PRIVILEGE: return "a privilege cannot be in conflict with itself";
-    case KEEPER_SAME_ROLE: return "a role cannot be its own junior or senior";
+    case KEEPER_SAME_ROLE: return "a role cannot be its own junior or senior, or exclude itself";
     case KEEPER_NO_IMAGE: return "no image ends these bytes";
     case KEEPER_BAD_ENTRY: return "an entry of the image is wrong";
     case KEEPER_BAD_CONTENTS: return "the roles, conflicts or seats of the image do not go together";
@@ -171,6 +179,8 @@ static inline const char *keeper_refusal_text(uint32_t number)
     case KEEPER_EQUAL_ROLES: return "two roles would be equal";
     case KEEPER_ROLE_CONFLICT: return "a role would hold privileges in conflict";
     case KEEPER_SEAT_CONFLICT: return "a seat would hold privileges in conflict";
+    case KEEPER_NOT_REACHED: return "no role of the seat reaches the role";
+    case KEEPER_EXCLUDED: return "two roles that exclude each other would be joined by a path or by a seat's active roles";
     case KEEPER_BAD_SHEET: return "a row is not one of a sheet, or has a number out of range";
     case KEEPER_SHORT_TAPE: return "the buffer is shorter than the tape";
     case KEEPER_NO_STATE / 256: return "the block is too short for a state";
@@ -180,19 +190,28 @@ static inline const char *keeper_refusal_text(uint32_t number)
 
 /* ---- the state ---- */
 
-/* Makes the state a fresh one: no ordinary role, no conflict, no seat with a role. Gives 0, or KEEPER_NO_STATE. */
+/* Makes the state a fresh one: no ordinary role, no conflict, no seat with a role, no roles that exclude each other, no
+ * active role. Gives 0, or KEEPER_NO_STATE. */
 KEEPER_HEED uint32_t keeper_fresh(uint64_t *block, size_t words);
 
 /* Takes a record of any bytes and gives its answer; where it is refused the state stays. */
 KEEPER_HEED uint32_t keeper_call(uint64_t *block, size_t words, const uint8_t *bytes, size_t length);
 
-/* Tells whether the seat may use the privilege: true exactly where a record that asks, given next, is answered yes. False
- * for every number above 63 and for a short block. */
+/* Tells whether the seat may use the privilege: true exactly where a record that asks, given next, is answered yes. Its
+ * assigned roles decide, active or not. False for every number above 63 and for a short block. */
 KEEPER_HEED bool keeper_may(const uint64_t *block, size_t words, uint32_t seat, uint32_t privilege);
 
 /* Gives what a record that asks would be answered: 1 for yes, 0 for no, a refusal with 2, or KEEPER_NO_STATE. For those who
  * want the refusal; it is no test, and both numbers are bytes. */
 KEEPER_HEED uint32_t keeper_ask(const uint64_t *block, size_t words, uint8_t seat, uint8_t privilege);
+
+/* Tells whether the seat may use the privilege by its active roles alone: true exactly where one of them is, or lies above,
+ * a role that has the privilege. False for every number above 63 and for a short block. No record asks this. */
+KEEPER_HEED bool keeper_may_active(const uint64_t *block, size_t words, uint32_t seat, uint32_t privilege);
+
+/* Gives the same as an answer: 1 for yes, 0 for no, a refusal with 2, or KEEPER_NO_STATE. It is to keeper_may_active what
+ * keeper_ask is to keeper_may. */
+KEEPER_HEED uint32_t keeper_ask_active(const uint64_t *block, size_t words, uint8_t seat, uint8_t privilege);
 
 /* Gives how many of the asks, two bytes each, a seat and a privilege, are answered yes; a byte left over asks nothing. */
 KEEPER_HEED uint64_t keeper_count_yes(const uint64_t *block, size_t words, const uint8_t *asks, size_t length);
@@ -200,11 +219,13 @@ KEEPER_HEED uint64_t keeper_count_yes(const uint64_t *block, size_t words, const
 /* ---- images ---- */
 
 /* Writes the image to the buffer's front, touches nothing behind it, and gives its length. Where there is none it touches
- * nothing, and gives KEEPER_NOT_SAVED plus the refusal with 9, or plus KEEPER_NO_STATE. */
+ * nothing, and gives KEEPER_NOT_SAVED plus the refusal with 9, or plus KEEPER_NO_STATE. The roles that exclude each other
+ * and the active roles are not in it. */
 KEEPER_HEED uint32_t keeper_save(const uint64_t *block, size_t words, uint8_t *buffer, size_t length);
 
-/* Loads the image that ends the bytes, whatever stands before it, and gives 0; or a refusal with 6, 7 or 8, or
- * KEEPER_NO_STATE, and the state stays. An image with other bytes behind it is none: give the length that was saved. */
+/* Loads the image that ends the bytes, whatever stands before it, and gives 0: then no roles exclude each other, and no role
+ * is active. Or gives a refusal with 6, 7 or 8, or KEEPER_NO_STATE, and the state stays with all its words. An image with
+ * other bytes behind it is none: give the length that was saved. */
 KEEPER_HEED uint32_t keeper_load(uint64_t *block, size_t words, const uint8_t *bytes, size_t length);
 
 /* Gives the length of the image that ends the bytes, so that it starts so many bytes before their end. Where loading would
@@ -280,6 +301,12 @@ KEEPER_HEED uint64_t keeper_seat_roles(const uint64_t *block, size_t words, uint
 /* Gives what a seat holds: the union of the effective privileges of its roles. */
 KEEPER_HEED uint64_t keeper_seat_holds(const uint64_t *block, size_t words, uint8_t seat);
 
+/* Gives the active roles of a seat. */
+KEEPER_HEED uint64_t keeper_active_roles(const uint64_t *block, size_t words, uint8_t seat);
+
+/* Tells whether two roles exclude each other, in either order. */
+KEEPER_HEED bool keeper_is_excluded(const uint64_t *block, size_t words, uint8_t first, uint8_t second);
+
 /* ---- records, made by inline functions that are not proved ---- */
 
 /* The kinds of record. */
@@ -295,7 +322,10 @@ enum keeper_kind {
     KEEPER_LIFT = 9,
     KEEPER_ASSIGN = 10,
     KEEPER_UNASSIGN = 11,
-    KEEPER_ASK = 12
+    KEEPER_ASK = 12,
+    KEEPER_EXCLUDE = 13,
+    KEEPER_ACTIVATE = 14,
+    KEEPER_DEACTIVATE = 15
 };
 
 /* A record: byte 0 the kind, byte 1 a, byte 2 b, bytes 3 to 7 zero, then three little-endian sets. */
@@ -401,6 +431,24 @@ static inline keeper_record keeper_record_unassign(uint32_t seat, uint32_t role)
 static inline keeper_record keeper_record_ask(uint32_t seat, uint32_t privilege)
 {
     return keeper_record_of(KEEPER_ASK, seat, privilege, 0, 0, 0);
+}
+
+/* Makes two roles exclude each other, until one of them is removed. */
+static inline keeper_record keeper_record_exclude(uint32_t first, uint32_t second)
+{
+    return keeper_record_of(KEEPER_EXCLUDE, first, second, 0, 0, 0);
+}
+
+/* Switches a role on at a seat: it becomes one of the seat's active roles. */
+static inline keeper_record keeper_record_activate(uint32_t seat, uint32_t role)
+{
+    return keeper_record_of(KEEPER_ACTIVATE, seat, role, 0, 0, 0);
+}
+
+/* Switches an active role of a seat off. */
+static inline keeper_record keeper_record_deactivate(uint32_t seat, uint32_t role)
+{
+    return keeper_record_of(KEEPER_DEACTIVATE, seat, role, 0, 0, 0);
 }
 
 /* Takes a record that one of these made, and gives its answer. */
