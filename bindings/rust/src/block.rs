@@ -14,6 +14,8 @@ extern "C" {
         -> u64;
     fn keeper_may(block: *const u64, words: usize, seat: u32, privilege: u32) -> bool;
     fn keeper_ask(block: *const u64, words: usize, seat: u8, privilege: u8) -> u32;
+    fn keeper_may_active(block: *const u64, words: usize, seat: u32, privilege: u32) -> bool;
+    fn keeper_ask_active(block: *const u64, words: usize, seat: u8, privilege: u8) -> u32;
     fn keeper_count_yes(block: *const u64, words: usize, asks: *const u8, length: usize) -> u64;
     fn keeper_edge_count(block: *const u64, words: usize) -> u32;
     fn keeper_effective(block: *const u64, words: usize, role: u8) -> u64;
@@ -24,10 +26,12 @@ extern "C" {
     fn keeper_is_declared(block: *const u64, words: usize, first: u8, second: u8) -> bool;
     fn keeper_seat_roles(block: *const u64, words: usize, seat: u8) -> u64;
     fn keeper_seat_holds(block: *const u64, words: usize, seat: u8) -> u64;
+    fn keeper_active_roles(block: *const u64, words: usize, seat: u8) -> u64;
+    fn keeper_is_excluded(block: *const u64, words: usize, first: u8, second: u8) -> bool;
 }
 
 /// How many words a state takes.
-pub const WORDS: usize = 193;
+pub const WORDS: usize = 321;
 /// How many bytes the longest image has.
 pub const LONGEST_IMAGE: usize = 5182;
 /// The answer for a block of fewer words.
@@ -87,6 +91,16 @@ pub fn ask(block: &[u64], seat: u8, privilege: u8) -> u32 {
     unsafe { keeper_ask(block.as_ptr(), block.len(), seat, privilege) }
 }
 
+/// Whether a seat may use a privilege by its active roles; false for every number above 63 and every short block.
+pub fn may_active(block: &[u64], seat: u32, privilege: u32) -> bool {
+    unsafe { keeper_may_active(block.as_ptr(), block.len(), seat, privilege) }
+}
+
+/// The answer to whether a seat may use a privilege by its active roles.
+pub fn ask_active(block: &[u64], seat: u8, privilege: u8) -> u32 {
+    unsafe { keeper_ask_active(block.as_ptr(), block.len(), seat, privilege) }
+}
+
 /// How many of the asks, two bytes each, are answered yes.
 pub fn count_yes(block: &[u64], asks: &[u8]) -> u64 {
     let (at, words) = (block.as_ptr(), block.len());
@@ -136,4 +150,14 @@ pub fn seat_roles(block: &[u64], seat: u8) -> u64 {
 /// What a seat holds.
 pub fn seat_holds(block: &[u64], seat: u8) -> u64 {
     unsafe { keeper_seat_holds(block.as_ptr(), block.len(), seat) }
+}
+
+/// The active roles of a seat.
+pub fn active_roles(block: &[u64], seat: u8) -> u64 {
+    unsafe { keeper_active_roles(block.as_ptr(), block.len(), seat) }
+}
+
+/// Whether two roles exclude each other.
+pub fn is_excluded(block: &[u64], first: u8, second: u8) -> bool {
+    unsafe { keeper_is_excluded(block.as_ptr(), block.len(), first, second) }
 }

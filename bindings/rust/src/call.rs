@@ -1,11 +1,11 @@
-//! Calls: the twelve kinds, and the record of each.
+//! Calls: the kinds, 1 to 15, and the record of each.
 
 use crate::set::Set;
 
 /// How many bytes a record has.
 pub const RECORD_LENGTH: usize = 32;
 
-/// A call of one of the twelve kinds. Numbers above 63 make a record too, which is refused.
+/// A call of one of the kinds. Numbers above 63 make a record too, which is refused.
 #[derive(Clone, Copy, PartialEq, Eq, Hash, Debug)]
 pub enum Call {
     /// Kind 1: a role by its direct privileges, its juniors and its seniors.
@@ -37,6 +37,12 @@ pub enum Call {
     Unassign { seat: u8, role: u8 },
     /// Kind 12: may the seat use the privilege?
     Ask { seat: u8, privilege: u8 },
+    /// Kind 13: two roles exclude each other, until one of them is removed.
+    Exclude { first: u8, second: u8 },
+    /// Kind 14: a role is switched on at a seat, and becomes one of its active roles.
+    Activate { seat: u8, role: u8 },
+    /// Kind 15: an active role of a seat is switched off.
+    Deactivate { seat: u8, role: u8 },
 }
 
 impl Call {
@@ -63,10 +69,13 @@ impl Call {
             Call::Assign { seat, role } => pair(10, seat, role),
             Call::Unassign { seat, role } => pair(11, seat, role),
             Call::Ask { seat, privilege } => pair(12, seat, privilege),
+            Call::Exclude { first, second } => pair(13, first, second),
+            Call::Activate { seat, role } => pair(14, seat, role),
+            Call::Deactivate { seat, role } => pair(15, seat, role),
         }
     }
 
-    /// The number of the kind, 1 to 12.
+    /// The number of the kind, 1 to 15.
     pub fn kind(&self) -> u8 {
         self.fields().0
     }
@@ -110,7 +119,7 @@ impl Call {
         (call.record() == record).then_some(call)
     }
 
-    /// The call of a kind from 4 to 12.
+    /// The call of a kind from 4 to 15.
     fn of_pair(kind: u8, a: u8, b: u8) -> Option<Call> {
         Some(match kind {
             4 => Call::Grant {
@@ -143,6 +152,12 @@ impl Call {
                 seat: a,
                 privilege: b,
             },
+            13 => Call::Exclude {
+                first: a,
+                second: b,
+            },
+            14 => Call::Activate { seat: a, role: b },
+            15 => Call::Deactivate { seat: a, role: b },
             _ => return None,
         })
     }

@@ -41,7 +41,7 @@ pub const MAX_ROLE: u8 = 1;
 /// What a call that is not refused is answered.
 #[derive(Clone, Copy, PartialEq, Eq, Hash, Debug)]
 pub enum Answer {
-    /// A call of kinds 1 to 11.
+    /// A call of every kind but 12.
     Accepted,
     /// An ask: the seat may use the privilege.
     Yes,
@@ -57,6 +57,22 @@ fn accepted(answer: u32) -> Result<(), Refusal> {
     }
 }
 
+/// Yes for the answer 1, no for 0, or the refusal.
+fn yes(answer: u32) -> Result<bool, Refusal> {
+    match answer {
+        1 => Ok(true),
+        _ => accepted(answer).map(|()| false),
+    }
+}
+
+/// The pairs of numbers for which a test holds, the lower first, ascending.
+fn pairs(test: impl Fn(u8, u8) -> bool) -> Vec<(u8, u8)> {
+    let pairs = (0..NUMBERS).flat_map(|lower| (lower..NUMBERS).map(move |higher| (lower, higher)));
+    pairs
+        .filter(|(lower, higher)| test(*lower, *higher))
+        .collect()
+}
+
 /// The length, or the refusal that stands in its place.
 fn length(answer: u32) -> Result<usize, Refusal> {
     match answer.checked_sub(NOT_SAVED) {
@@ -70,7 +86,8 @@ pub fn image_length(bytes: &[u8]) -> Result<usize, Refusal> {
     length(block::image_length(bytes))
 }
 
-/// A keeper: the roles with their privileges, the conflicts, and the roles of the seats.
+/// A keeper: the roles with their privileges, the conflicts, and the roles of the seats; and the roles that exclude each
+/// other and the active roles of the seats, which no image keeps.
 #[derive(Clone, PartialEq, Eq, Debug)]
 pub struct Keeper {
     block: [u64; WORDS],
@@ -83,7 +100,7 @@ impl Default for Keeper {
 }
 
 impl Keeper {
-    /// A fresh keeper: MinRole and MaxRole alone, no conflict, no seat with a role.
+    /// A fresh keeper: MinRole and MaxRole alone, no conflict, no seat with a role, and so nothing excluded or active.
     pub fn fresh() -> Keeper {
         let mut block = [0; WORDS];
         let answer = block::fresh(&mut block);
@@ -112,12 +129,9 @@ impl Keeper {
         }
     }
 
-    /// Whether a seat may use a privilege, or the refusal of a number above 63.
+    /// Whether a seat may use a privilege, or the refusal of a number above 63. Its assigned roles decide, active or not.
     pub fn ask(&self, seat: u8, privilege: u8) -> Result<bool, Refusal> {
-        match block::ask(&self.block, seat, privilege) {
-            1 => Ok(true),
-            answer => accepted(answer).map(|()| false),
-        }
+        yes(block::ask(&self.block, seat, privilege))
     }
 
     /// Whether a seat may use a privilege; false for every number above 63.
@@ -125,12 +139,35 @@ impl Keeper {
         block::may(&self.block, seat, privilege)
     }
 
+    /// Whether a seat may use a privilege by its active roles alone, or the refusal of a number above 63.
+    pub fn ask_active(&self, seat: u8, privilege: u8) -> Result<bool, Refusal> {
+        yes(block::ask_active(&self.block, seat, privilege))
+    }
+
+    /// Whether a seat may use a privilege by its active roles alone: one of them is, or lies above, a role that has it.
+    /// False for every number above 63.
+    ///
+    /// ```
+    /// use keeper::{Call, Keeper, Refusal, Set};
+    ///
+    /// let mut keeper = Keeper::fresh();
+    /// keeper.call(&Call::AddByPrivileges { role: 2, effective: Set::of(&[0, 1]) })?;
+    /// keeper.call(&Call::Assign { seat: 5, role: 2 })?;
+    /// assert!(keeper.may(5, 1) && !keeper.may_active(5, 1));
+    /// keeper.call(&Call::Activate { seat: 5, role: 2 })?;
+    /// assert!(keeper.may_active(5, 1));
+    /// # Ok::<(), Refusal>(())
+    /// ```
+    pub fn may_active(&self, seat: u32, privilege: u32) -> bool {
+        block::may_active(&self.block, seat, privilege)
+    }
+
     /// How many of the asks, a seat and a privilege each, are answered yes.
     pub fn count_yes(&self, asks: &[[u8; 2]]) -> u64 {
         block::count_yes(&self.block, &asks.concat())
     }
 
-    /// Loads the image that ends the bytes; a refused load keeps the state.
+    /// Loads the image that ends the bytes: no roles then exclude each other, and none is active. A refused load keeps the state.
     pub fn load(&mut self, bytes: &[u8]) -> Result<(), Refusal> {
         accepted(block::load(&mut self.block, bytes))
     }
@@ -140,7 +177,7 @@ impl Keeper {
         length(block::save(&self.block, buffer))
     }
 
-    /// The image.
+    /// The image. The roles that exclude each other and the active roles are not in it.
     pub fn save(&self) -> Vec<u8> {
         let mut image = vec![0; LONGEST_IMAGE];
         let length = self.save_into(&mut image);
@@ -199,11 +236,7 @@ impl Keeper {
 
     /// The declared conflicts, the lower privilege first, ascending.
     pub fn conflicts(&self) -> Vec<(u8, u8)> {
-        let pairs =
-            (0..NUMBERS).flat_map(|lower| (lower..NUMBERS).map(move |higher| (lower, higher)));
-        pairs
-            .filter(|(lower, higher)| self.is_declared(*lower, *higher))
-            .collect()
+        pairs(|lower, higher| self.is_declared(lower, higher))
     }
 
     /// The roles of a seat.
@@ -214,6 +247,21 @@ impl Keeper {
     /// What a seat holds: the union of the effective privileges of its roles.
     pub fn seat_holds(&self, seat: u8) -> Set {
         Set(block::seat_holds(&self.block, seat))
+    }
+
+    /// The active roles of a seat.
+    pub fn active_roles(&self, seat: u8) -> Set {
+        Set(block::active_roles(&self.block, seat))
+    }
+
+    /// Whether two roles exclude each other, in either order.
+    pub fn is_excluded(&self, first: u8, second: u8) -> bool {
+        block::is_excluded(&self.block, first, second)
+    }
+
+    /// The pairs of roles that exclude each other, the lower role first, ascending.
+    pub fn exclusions(&self) -> Vec<(u8, u8)> {
+        pairs(|lower, higher| self.is_excluded(lower, higher))
     }
 
     /// The block's words, as include/keeper.h lays them out.

@@ -16,7 +16,7 @@ pub enum Refusal {
     EndRole { role: u8 },
     /// 4: a conflict of a privilege with itself.
     SamePrivilege { privilege: u8 },
-    /// 5: an edge of a role with itself.
+    /// 5: an edge of a role with itself, or a role that is to exclude itself.
     SameRole { role: u8 },
     /// 6: the bytes do not end with an image.
     NoImage,
@@ -50,6 +50,11 @@ pub enum Refusal {
     RoleConflict { role: u8 },
     /// 30: a seat would hold a declared pair.
     SeatConflict { seat: u8 },
+    /// 34: no role of the seat is the role to be switched on, or lies above it.
+    NotReached { seat: u8 },
+    /// 35: a path would join two roles that exclude each other, or one seat's active roles would reach both; the lower role
+    /// of the lowest such pair.
+    Excluded { role: u8 },
     /// The block has too few words for a state.
     NoState,
     /// A number that this wrapper does not know.
@@ -81,6 +86,8 @@ impl Refusal {
             28 => Refusal::EqualRoles { role: place },
             29 => Refusal::RoleConflict { role: place },
             30 => Refusal::SeatConflict { seat: place },
+            34 => Refusal::NotReached { seat: place },
+            35 => Refusal::Excluded { role: place },
             _ => Refusal::Other { number, place },
         }
     }
@@ -117,6 +124,8 @@ impl Refusal {
             Refusal::EqualRoles { role } => (28, role),
             Refusal::RoleConflict { role } => (29, role),
             Refusal::SeatConflict { seat } => (30, seat),
+            Refusal::NotReached { seat } => (34, seat),
+            Refusal::Excluded { role } => (35, role),
             Refusal::NoState => (255, 255),
             Refusal::Other { number, place } => (number, place),
         }
@@ -134,12 +143,15 @@ impl Refusal {
 }
 
 /// What each number means, in plain words.
-const TEXTS: [(u8, &str); 21] = [
+const TEXTS: [(u8, &str); 23] = [
     (1, "not the 32 bytes of a call"),
     (2, "{place} is above 63"),
     (3, "role {place} is an end role, which no call names"),
     (4, "privilege {place} cannot be in conflict with itself"),
-    (5, "role {place} cannot be its own junior or senior"),
+    (
+        5,
+        "role {place} cannot be its own junior or senior, or exclude itself",
+    ),
     (6, "no image ends the bytes"),
     (7, "an entry of the image is out of range or out of order"),
     (
@@ -162,6 +174,11 @@ const TEXTS: [(u8, &str); 21] = [
     (28, "role {place} would hold what another role holds"),
     (29, "role {place} would hold privileges in conflict"),
     (30, "seat {place} would hold privileges in conflict"),
+    (34, "no role of seat {place} reaches the role"),
+    (
+        35,
+        "role {place} and one that it excludes would be joined by a path or by a seat's active roles",
+    ),
 ];
 
 /// The refusal in plain words, with its place.

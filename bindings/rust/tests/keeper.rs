@@ -1,5 +1,5 @@
-//! The wrapper over the archive: calls and their records, refusals and their words, asks, images, what a keeper shows, and
-//! sheets.
+//! The wrapper over the archive: calls and their records, refusals and their words, asks, active roles, images, what a
+//! keeper shows, and sheets.
 
 use keeper::{
     block, image_length, import, import_into, tape_room, Answer, Call, Keeper, Refusal, Set,
@@ -80,6 +80,9 @@ fn each_kind_without_sets_has_its_record() {
         (Call::Assign { seat, role }, [10, 6, 5]),
         (Call::Unassign { seat, role }, [11, 6, 5]),
         (Call::Ask { seat, privilege }, [12, 6, 7]),
+        (Call::Exclude { first, second }, [13, 10, 11]),
+        (Call::Activate { seat, role }, [14, 6, 5]),
+        (Call::Deactivate { seat, role }, [15, 6, 5]),
     ];
     for (call, front) in kinds {
         has_record(call, bytes(front, [0; 3]));
@@ -133,7 +136,7 @@ fn the_sample_is_answered() {
 #[test]
 fn every_refusal_has_its_number_place_and_words() {
     let mut words = Vec::new();
-    for number in (1..=9).chain(20..=31) {
+    for number in (1..=9).chain(20..=31).chain(34..=35) {
         let refusal = Refusal::of(number, 7);
         let place = if matches!(number, 1 | 6..=9) { 0 } else { 7 };
         assert_eq!(refusal.parts(), (number, place));
@@ -216,11 +219,160 @@ fn may_says_yes_where_the_ask_does_and_nowhere_else() {
 #[test]
 fn a_short_block_says_no() {
     let words = [u64::MAX; WORDS];
-    assert!(block::may(&words, 0, 0));
+    assert!(block::may(&words, 0, 0) && block::may_active(&words, 0, 0));
     for count in 0..WORDS {
-        assert!(!block::may(&words[..count], 0, 0));
-        assert_eq!(block::ask(&words[..count], 0, 0), block::NO_STATE);
+        let short = &words[..count];
+        assert!(!block::may(short, 0, 0) && !block::may_active(short, 0, 0));
+        assert_eq!(block::ask(short, 0, 0), block::NO_STATE);
+        assert_eq!(block::ask_active(short, 0, 0), block::NO_STATE);
+        assert_eq!(block::active_roles(short, 0), 0);
+        assert!(!block::is_excluded(short, 2, 3));
     }
+}
+
+// ---- sitting down in one role ----
+
+/// Roles 2 {0} and 3 {1} exclude each other; role 4 {0,1,2} lies above both, and seat 5 has it.
+const DESK: [Call; 5] = [
+    Call::AddByPrivileges {
+        role: 2,
+        effective: Set::of(&[0]),
+    },
+    Call::AddByPrivileges {
+        role: 3,
+        effective: Set::of(&[1]),
+    },
+    Call::AddByPrivileges {
+        role: 4,
+        effective: Set::of(&[0, 1, 2]),
+    },
+    Call::Assign { seat: 5, role: 4 },
+    Call::Exclude {
+        first: 3,
+        second: 2,
+    },
+];
+
+/// Seat 5 switches a role on.
+fn on(role: u8) -> Call {
+    Call::Activate { seat: 5, role }
+}
+
+/// The state after the desk's calls and these, all of them accepted.
+fn desk(calls: &[Call]) -> Keeper {
+    let mut keeper = Keeper::fresh();
+    for call in DESK.iter().chain(calls) {
+        assert_eq!(keeper.call(call), Ok(Answer::Accepted), "{call:?}");
+    }
+    keeper
+}
+
+#[test]
+fn a_seat_may_use_what_its_active_roles_reach() {
+    let mut keeper = desk(&[on(2)]);
+    assert_eq!(keeper.active_roles(5), Set::of(&[2]));
+    assert!(keeper.may_active(5, 0) && !keeper.may_active(5, 1));
+    assert!(keeper.may(5, 0) && keeper.may(5, 1) && keeper.may(5, 2));
+    let off = Call::Deactivate { seat: 5, role: 2 };
+    assert_eq!(keeper.call(&off), Ok(Answer::Accepted));
+    assert_eq!(keeper.active_roles(5), Set::EMPTY);
+    assert!(!keeper.may_active(5, 0) && keeper.may(5, 0));
+    assert_eq!(keeper, desk(&[]));
+}
+
+/// Juniors of an active role are reached without being active themselves.
+#[test]
+fn an_active_role_reaches_its_juniors() {
+    let mut keeper = desk(&[Call::RemoveRole {
+        role: 3,
+        keep: false,
+    }]);
+    assert!(keeper.exclusions().is_empty());
+    assert_eq!(keeper.call(&on(4)), Ok(Answer::Accepted));
+    assert_eq!(keeper.active_roles(5), Set::of(&[4]));
+    assert!(keeper.may_active(5, 0) && keeper.may_active(5, 2));
+}
+
+#[test]
+fn the_question_by_active_roles_fails_closed() {
+    let keeper = desk(&[on(2)]);
+    for number in [64, 255, 256, 256 + 5, 1 << 16, 1 << 31, u32::MAX] {
+        assert!(!keeper.may_active(number, 0) && !keeper.may_active(5, number));
+    }
+    let above = |number| Err(Refusal::UnknownNumber { number });
+    assert_eq!(keeper.ask_active(5, 0), Ok(true));
+    assert_eq!(keeper.ask_active(5, 1), Ok(false));
+    assert_eq!(keeper.ask_active(6, 0), Ok(false));
+    assert_eq!(keeper.ask_active(64, 255), above(64));
+    assert_eq!(keeper.ask_active(5, 255), above(255));
+}
+
+#[test]
+fn roles_exclude_each_other_in_either_order() {
+    let keeper = desk(&[]);
+    assert!(keeper.is_excluded(2, 3) && keeper.is_excluded(3, 2));
+    assert!(!keeper.is_excluded(2, 4) && !keeper.is_excluded(2, 2));
+    assert!(!keeper.is_excluded(2, 255));
+    assert_eq!(keeper.exclusions(), [(2, 3)]);
+}
+
+#[test]
+fn what_is_wrong_with_a_sitting_is_refused() {
+    let mut keeper = desk(&[on(2)]);
+    let exclude = |first, second| Call::Exclude { first, second };
+    let activate = |seat, role| Call::Activate { seat, role };
+    let deactivate = |seat, role| Call::Deactivate { seat, role };
+    let edge = Call::AddEdge {
+        junior: 3,
+        senior: 2,
+    };
+    let refused = [
+        (exclude(64, 2), Refusal::UnknownNumber { number: 64 }),
+        (exclude(2, 1), Refusal::EndRole { role: 1 }),
+        (exclude(9, 9), Refusal::SameRole { role: 9 }),
+        (exclude(2, 9), Refusal::RoleAbsent { role: 9 }),
+        (exclude(2, 3), Refusal::AlreadySo { place: 2 }),
+        (exclude(3, 2), Refusal::AlreadySo { place: 3 }),
+        (exclude(4, 3), Refusal::Excluded { role: 3 }),
+        (activate(5, 0), Refusal::EndRole { role: 0 }),
+        (activate(5, 9), Refusal::RoleAbsent { role: 9 }),
+        (activate(5, 2), Refusal::AlreadySo { place: 5 }),
+        (activate(6, 2), Refusal::NotReached { seat: 6 }),
+        (activate(5, 3), Refusal::Excluded { role: 2 }),
+        (activate(5, 4), Refusal::Excluded { role: 2 }),
+        (deactivate(64, 2), Refusal::UnknownNumber { number: 64 }),
+        (deactivate(5, 9), Refusal::RoleAbsent { role: 9 }),
+        (deactivate(5, 4), Refusal::NotSo { place: 5 }),
+        (edge, Refusal::Excluded { role: 2 }),
+    ];
+    for (call, refusal) in refused {
+        assert_eq!(keeper.call(&call), Err(refusal), "{call:?}");
+        assert_eq!(keeper, desk(&[on(2)]));
+    }
+}
+
+#[test]
+fn a_role_that_no_assigned_role_reaches_is_switched_off() {
+    let mut keeper = desk(&[on(2)]);
+    let taken = Call::Unassign { seat: 5, role: 4 };
+    assert_eq!(keeper.call(&taken), Ok(Answer::Accepted));
+    assert_eq!(keeper.active_roles(5), Set::EMPTY);
+    let given = Call::Assign { seat: 5, role: 4 };
+    assert_eq!(keeper.call(&given), Ok(Answer::Accepted));
+    assert!(!keeper.may_active(5, 0));
+}
+
+#[test]
+fn no_image_keeps_exclusions_and_active_roles() {
+    let mut keeper = desk(&[on(2)]);
+    let image = keeper.save();
+    let plain = Keeper::of_image(&image).expect("an image");
+    assert_eq!(plain.save(), image);
+    assert!(plain.exclusions().is_empty() && plain.active_roles(5).is_empty());
+    assert_eq!(keeper.load(&image[1..]), Err(Refusal::NoImage));
+    assert_eq!(keeper, desk(&[on(2)]));
+    assert_eq!(keeper.load(&image), Ok(()));
+    assert_eq!(keeper, plain);
 }
 
 // ---- images ----
