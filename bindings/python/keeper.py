@@ -6,6 +6,8 @@
     keeper.add_by_privileges(role=2, effective={0, 1})
     keeper.assign(seat=5, role=2)
     keeper.may(5, 1)                        # True
+    keeper.activate(seat=5, role=2)
+    keeper.may_active(5, 1)                 # True, by the roles that are switched on
     try:
         keeper.assign(seat=5, role=3)
     except Refused as refused:
@@ -29,7 +31,7 @@ __all__ = ['Keeper', 'Refused', 'image_length', 'import_sheet', 'import_sheet_in
            'WORDS', 'LONGEST_IMAGE', 'RECORD']
 
 # How many words a state takes, how many bytes the longest image has, and how many a record.
-WORDS = 193
+WORDS = 321
 LONGEST_IMAGE = 5182
 RECORD = 32
 # The answer for a block of fewer words, what is added to a refusal that stands in the place of a length, and what is
@@ -50,6 +52,8 @@ _FUNCTIONS = {
     'keeper_load': (_U32, _BYTES, _LENGTH),
     'keeper_may': (_BOOL, _U32, _U32),
     'keeper_ask': (_U32, _U8, _U8),
+    'keeper_may_active': (_BOOL, _U32, _U32),
+    'keeper_ask_active': (_U32, _U8, _U8),
     'keeper_count_yes': (_U64, _BYTES, _LENGTH),
     'keeper_edge_count': (_U32,),
     'keeper_effective': (_U64, _U8),
@@ -60,6 +64,8 @@ _FUNCTIONS = {
     'keeper_is_declared': (_BOOL, _U8, _U8),
     'keeper_seat_roles': (_U64, _U8),
     'keeper_seat_holds': (_U64, _U8),
+    'keeper_active_roles': (_U64, _U8),
+    'keeper_is_excluded': (_BOOL, _U8, _U8),
 }
 # Those that have no block: the result, then the parameters.
 _BLOCKLESS = {
@@ -73,7 +79,7 @@ _TEXTS = {
     2: '{place} is above 63',
     3: 'role {place} is an end role, which no call names',
     4: 'privilege {place} cannot be in conflict with itself',
-    5: 'role {place} cannot be its own junior or senior',
+    5: 'role {place} cannot be its own junior or senior, or exclude itself',
     6: 'no image ends the bytes',
     7: 'an entry of the image is out of range or out of order',
     8: 'the roles, conflicts and seats of the image do not go together',
@@ -90,6 +96,8 @@ _TEXTS = {
     28: 'role {place} would hold what another role holds',
     29: 'role {place} would hold privileges in conflict',
     30: 'seat {place} would hold privileges in conflict',
+    34: 'no role of seat {place} reaches the role',
+    35: "role {place} and one that it excludes would be joined by a path or by a seat's active roles",
     32: 'row {place} is not one of a sheet, or has a number out of range',
     33: 'the buffer is shorter than the tape',
 }
@@ -213,8 +221,14 @@ def records(tape):
     return [tape[at:at + RECORD] for at in range(0, len(tape), RECORD)]
 
 
+def _pairs(test):
+    """The pairs of numbers for which a test holds, the lower first, ascending."""
+    return [(low, high) for low in range(64) for high in range(low + 1, 64) if test(low, high)]
+
+
 class Keeper:
-    """A keeper: the roles with their privileges, the conflicts, and the roles of the seats.
+    """A keeper: the roles with their privileges, the conflicts, and the roles of the seats; and the roles that exclude
+    each other and the active roles of the seats, which no image keeps.
 
     Fresh, or with the state of the image that ends the bytes given.
     """
@@ -226,7 +240,7 @@ class Keeper:
         if image is not None:
             self.load(image)
 
-    # ---- the twelve calls
+    # ---- the calls
 
     def record(self, record):
         """Takes a record of any bytes; gives True and False for an ask, and None for another call."""
@@ -282,16 +296,46 @@ class Keeper:
         """Kind 11: a seat loses a role."""
         self._call(11, seat, role)
 
-    def ask(self, seat, privilege):
-        """Kind 12: whether a seat may use a privilege; a number above 63 is refused."""
-        return _accepted(_library.keeper_ask(*self._block, _number(seat), _number(privilege))) == 1
+    def exclude(self, first, second):
+        """Kind 13: two roles exclude each other, until one of them is removed."""
+        self._call(13, first, second)
 
-    def may(self, seat, privilege):
-        """Whether a seat may use a privilege; False for every number outside 0 to 63."""
+    def activate(self, *, seat, role):
+        """Kind 14: a role is switched on at a seat, and becomes one of its active roles."""
+        self._call(14, seat, role)
+
+    def deactivate(self, *, seat, role):
+        """Kind 15: an active role of a seat is switched off."""
+        self._call(15, seat, role)
+
+    # ---- the questions
+
+    def _ask(self, function, seat, privilege):
+        """The yes or no of a question that refuses a number above 63."""
+        return _accepted(function(*self._block, _number(seat), _number(privilege))) == 1
+
+    def _may(self, function, seat, privilege):
+        """The yes or no of a question that says no for a number outside 0 to 63."""
         seat, privilege = operator.index(seat), operator.index(privilege)
         if not (0 <= seat <= 63 and 0 <= privilege <= 63):
             return False
-        return _library.keeper_may(*self._block, seat, privilege)
+        return function(*self._block, seat, privilege)
+
+    def ask(self, seat, privilege):
+        """Kind 12: whether a seat may use a privilege; a number above 63 is refused."""
+        return self._ask(_library.keeper_ask, seat, privilege)
+
+    def may(self, seat, privilege):
+        """Whether a seat may use a privilege; False for every number outside 0 to 63."""
+        return self._may(_library.keeper_may, seat, privilege)
+
+    def ask_active(self, seat, privilege):
+        """Whether a seat may use a privilege by its active roles alone; a number above 63 is refused."""
+        return self._ask(_library.keeper_ask_active, seat, privilege)
+
+    def may_active(self, seat, privilege):
+        """Whether a seat may use a privilege by its active roles alone; False for every number outside 0 to 63."""
+        return self._may(_library.keeper_may_active, seat, privilege)
 
     def count_yes(self, asks):
         """How many of the asks, a seat and a privilege each, are answered yes."""
@@ -301,11 +345,12 @@ class Keeper:
     # ---- images
 
     def load(self, image):
-        """Loads the image that ends the bytes; a refused load keeps the state."""
+        """Loads the image that ends the bytes: no roles then exclude each other, and none is active. A refused load
+        keeps the state."""
         _accepted(_library.keeper_load(*self._block, *_bytes(image)))
 
     def save(self):
-        """The image."""
+        """The image. The roles that exclude each other and the active roles are not in it."""
         buffer = (ctypes.c_uint8 * LONGEST_IMAGE)()
         return bytes(buffer[:_length(_library.keeper_save(*self._block, buffer, LONGEST_IMAGE))])
 
@@ -353,7 +398,7 @@ class Keeper:
 
     def conflicts(self):
         """The declared conflicts, the lower privilege first, ascending."""
-        return [(low, high) for low in range(64) for high in range(low + 1, 64) if self.is_declared(low, high)]
+        return _pairs(self.is_declared)
 
     def seat_roles(self, seat):
         """The roles of a seat."""
@@ -362,3 +407,15 @@ class Keeper:
     def seat_holds(self, seat):
         """What a seat holds: the union of the effective privileges of its roles."""
         return _set(_library.keeper_seat_holds(*self._block, _number(seat)))
+
+    def active_roles(self, seat):
+        """The active roles of a seat."""
+        return _set(_library.keeper_active_roles(*self._block, _number(seat)))
+
+    def is_excluded(self, first, second):
+        """Whether two roles exclude each other, in either order."""
+        return _library.keeper_is_excluded(*self._block, _number(first), _number(second))
+
+    def exclusions(self):
+        """The pairs of roles that exclude each other, the lower role first, ascending."""
+        return _pairs(self.is_excluded)

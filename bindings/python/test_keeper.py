@@ -109,19 +109,27 @@ class WrongUses(Test):
         self.all.add_by_privileges(role=2, effective=range(64))
         for seat in range(64):
             self.all.assign(seat=seat, role=2)
+            self.all.activate(seat=seat, role=2)
 
     def test_numbers(self):
         self.assertIs(self.all.may(63, 63), True)
+        self.assertIs(self.all.may_active(63, 63), True)
         for number in [64, 255, 256, 320, 2 ** 16, 2 ** 32, 2 ** 32 + 5, 2 ** 64, 2 ** 64 + 5, -1, -251, -2 ** 32]:
             with self.subTest(number):
-                self.assertIs(self.all.may(number, 0), False)
-                self.assertIs(self.all.may(0, number), False)
-                self.refuses(2, number, self.all.ask, number, 0)
-                self.refuses(2, number, self.all.ask, 0, number)
+                for may, ask in [(self.all.may, self.all.ask), (self.all.may_active, self.all.ask_active)]:
+                    self.assertIs(may(number, 0), False)
+                    self.assertIs(may(0, number), False)
+                    self.refuses(2, number, ask, number, 0)
+                    self.refuses(2, number, ask, 0, number)
                 self.refuses(2, number, self.all.assign, seat=number, role=2)
+                self.refuses(2, number, self.all.exclude, number, 2)
+                self.refuses(2, number, self.all.activate, seat=number, role=2)
+                self.refuses(2, number, self.all.deactivate, seat=0, role=number)
                 if not 0 <= number <= 255:
                     self.refuses(2, number, self.all.count_yes, [(number, 0)])
                     self.refuses(2, number, self.all.seat_holds, number)
+                    self.refuses(2, number, self.all.active_roles, number)
+                    self.refuses(2, number, self.all.is_excluded, 2, number)
                 self.refuses(2, number, self.all.add_by_privileges, role=3, effective={number})
         self.assertEqual(self.all.count_yes([(0, 0), (64, 0), (0, 255), (63, 63)]), 2)
 
@@ -130,19 +138,101 @@ class WrongUses(Test):
             with self.subTest(word):
                 self.assertRaises(TypeError, self.all.may, word, 0)
                 self.assertRaises(TypeError, self.all.ask, word, 0)
+                self.assertRaises(TypeError, self.all.may_active, word, 0)
+                self.assertRaises(TypeError, self.all.ask_active, word, 0)
                 self.assertRaises(TypeError, self.all.assign, seat=word, role=2)
 
     def test_a_short_block(self):
         library = keeper._library
         words = (ctypes.c_uint64 * keeper.WORDS)(*[2 ** 64 - 1] * keeper.WORDS)
-        self.assertIs(library.keeper_may(words, keeper.WORDS, 0, 0), True)
-        for count in range(keeper.WORDS):
-            self.assertIs(library.keeper_may(words, count, 0, 0), False)
-            self.assertEqual(library.keeper_ask(words, count, 0, 0), keeper.NO_STATE)
+        for may, ask in [(library.keeper_may, library.keeper_ask),
+                         (library.keeper_may_active, library.keeper_ask_active)]:
+            self.assertIs(may(words, keeper.WORDS, 0, 0), True)
+            for count in range(keeper.WORDS):
+                self.assertIs(may(words, count, 0, 0), False)
+                self.assertEqual(ask(words, count, 0, 0), keeper.NO_STATE)
 
     def test_numbers_are_not_crossed(self):
         with self.assertRaises(TypeError):
             self.all.grant(1, 2)
+
+
+def desk():
+    """Roles 2 {0} and 3 {1} exclude each other; seat 5 has role 4 {0,1,2}, above both, and role 2 switched on."""
+    got = Keeper()
+    for role, effective in [(2, {0}), (3, {1}), (4, {0, 1, 2})]:
+        got.add_by_privileges(role=role, effective=effective)
+    got.assign(seat=5, role=4)
+    got.exclude(3, 2)
+    got.activate(seat=5, role=2)
+    return got
+
+
+class Sitting(Test):
+    """Sitting down in one role: exclusions, active roles, and the question by these."""
+
+    def test_the_question(self):
+        got = desk()
+        self.assertEqual([got.may_active(5, privilege) for privilege in range(3)], [True, False, False])
+        self.assertEqual([got.may(5, privilege) for privilege in range(3)], [True] * 3)
+        self.assertIs(got.ask_active(5, 0), True)
+        self.assertIs(got.ask_active(5, 1), False)
+        self.assertIs(got.may_active(256 + 5, 0), False)
+        got.deactivate(seat=5, role=2)
+        self.assertIs(got.may_active(5, 0), False)
+        got.activate(seat=5, role=3)
+        self.assertIs(got.may_active(5, 1), True)
+
+    def test_juniors_are_reached(self):
+        got = desk()
+        got.remove_role(role=3)
+        self.assertEqual(got.exclusions(), [])
+        got.activate(seat=5, role=4)
+        got.deactivate(seat=5, role=2)
+        self.assertEqual(got.active_roles(5), {4})
+        self.assertIs(got.may_active(5, 0), True)
+
+    def test_refusals(self):
+        got = desk()
+        self.refuses(3, 1, got.exclude, 2, 1)
+        self.refuses(5, 9, got.exclude, 9, 9)
+        self.refuses(21, 9, got.exclude, 2, 9)
+        self.refuses(22, 2, got.exclude, 2, 3)
+        self.refuses(22, 3, got.exclude, 3, 2)
+        self.refuses(22, 5, got.activate, seat=5, role=2)
+        self.refuses(23, 5, got.deactivate, seat=5, role=4)
+        said = self.refuses(34, 6, got.activate, seat=6, role=2)
+        self.assertEqual(said.text, 'no role of seat 6 reaches the role')
+        self.refuses(35, 3, got.exclude, 4, 3)
+        self.refuses(35, 2, got.activate, seat=5, role=3)
+        self.refuses(35, 2, got.add_edge, junior=3, senior=2)
+        said = self.refuses(35, 2, got.activate, seat=5, role=4)
+        joined = "role 2 and one that it excludes would be joined by a path or by a seat's active roles"
+        self.assertEqual(said.text, joined)
+        self.assertEqual((got.exclusions(), got.active_roles(5)), ([(2, 3)], {2}))
+
+    def test_an_unassigned_role_is_switched_off(self):
+        got = desk()
+        got.unassign(seat=5, role=4)
+        self.assertEqual(got.active_roles(5), set())
+        got.assign(seat=5, role=4)
+        self.assertIs(got.may_active(5, 0), False)
+
+    def test_an_image_keeps_none_of_it(self):
+        got = desk()
+        image = got.save()
+        self.refuses(6, 0, got.load, image[1:])
+        self.assertEqual((got.exclusions(), got.active_roles(5)), ([(2, 3)], {2}))
+        got.load(image)
+        self.assertEqual((got.exclusions(), got.active_roles(5)), ([], set()))
+        self.assertEqual(got.save(), image)
+
+    def test_what_is_shown(self):
+        got = desk()
+        self.assertEqual(got.active_roles(5), {2})
+        self.assertEqual((got.active_roles(6), got.active_roles(64)), (set(), set()))
+        self.assertTrue(got.is_excluded(2, 3) and got.is_excluded(3, 2))
+        self.assertFalse(got.is_excluded(2, 4) or got.is_excluded(2, 255))
 
 
 class Images(Test):
