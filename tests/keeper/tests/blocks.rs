@@ -1,9 +1,13 @@
 //! Blocks of any length and any contents: every function answers, and touches only what it should.
 
 use keeper::block::{self, LONGEST_IMAGE, NOT_SAVED, NO_STATE, WORDS};
+use role_reference::generate::random_state;
 use role_reference::random::{printed_seed, Random};
 
 const FILLER: u8 = 0xA5;
+
+/// How many of a state's words an image keeps.
+const SAVED: usize = 193;
 
 /// A word with few, some or all kinds of members.
 fn word(random: &mut Random) -> u64 {
@@ -28,7 +32,7 @@ fn record(random: &mut Random) -> Vec<u8> {
     };
     let mut record = random.bytes(length);
     if random.under(8) > 0 && length == 32 {
-        record[0] = random.between(1, 12) as u8;
+        record[0] = random.between(1, 15) as u8;
         record[1] &= 127;
         record[2] &= 127;
         record[3..8].fill(0);
@@ -46,6 +50,10 @@ fn record(random: &mut Random) -> Vec<u8> {
 fn shows_nothing(words: &[u64], a: u8, b: u8) {
     assert!(!block::may(words, a.into(), b.into()));
     assert_eq!(block::ask(words, a, b), NO_STATE);
+    assert!(!block::may_active(words, a.into(), b.into()));
+    assert_eq!(block::ask_active(words, a, b), NO_STATE);
+    assert_eq!(block::active_roles(words, a), 0);
+    assert!(!block::is_excluded(words, a, b));
     assert_eq!(block::count_yes(words, &[a, b]), 0);
     assert_eq!(block::edge_count(words), 0);
     assert_eq!(block::effective(words, a), 0);
@@ -98,24 +106,44 @@ fn shows_its_words(words: &[u64], a: u8, b: u8) {
     let roles = (0..64).filter(|role| bit(entry(words, 129, a), *role));
     let held = roles.fold(0, |held, role| held | entry(words, 1, role));
     assert_eq!(block::seat_holds(words, a), held);
-    let asked = match (a, b) {
-        (64.., _) => 512 + u32::from(a),
-        (_, 64..) => 512 + u32::from(b),
-        _ => bit(held, b).into(),
-    };
-    assert_eq!(block::ask(words, a, b), asked);
-    may_as_asked(words, a, b);
+    assert_eq!(block::ask(words, a, b), answered(a, b, bit(held, b)));
+    may_as_asked(block::may, block::ask, words, a, b);
 }
 
-/// A yes is what the ask answers with 1, and no number that a byte narrows is taken for another.
-fn may_as_asked(words: &[u64], a: u8, b: u8) {
-    let asked = block::ask(words, a, b) == 1;
-    let (a, b) = (u32::from(a), u32::from(b));
-    assert_eq!(block::may(words, a, b), asked);
-    for far in [256, 512, 1 << 16, 1 << 31] {
-        assert!(!block::may(words, a + far, b));
-        assert!(!block::may(words, a, b + far));
+/// The answer to a question about a seat and a privilege, by what it is for known numbers.
+fn answered(seat: u8, privilege: u8, yes: bool) -> u32 {
+    match (seat, privilege) {
+        (64.., _) => 512 + u32::from(seat),
+        (_, 64..) => 512 + u32::from(privilege),
+        _ => yes.into(),
     }
+}
+
+type May = fn(&[u64], u32, u32) -> bool;
+type Ask = fn(&[u64], u8, u8) -> u32;
+
+/// A yes is what the ask answers with 1, and no number that a byte narrows is taken for another.
+fn may_as_asked(may: May, ask: Ask, words: &[u64], a: u8, b: u8) {
+    let asked = ask(words, a, b) == 1;
+    let (a, b) = (u32::from(a), u32::from(b));
+    assert_eq!(may(words, a, b), asked);
+    for far in [256, 512, 1 << 16, 1 << 31] {
+        assert!(!may(words, a + far, b));
+        assert!(!may(words, a, b + far));
+    }
+}
+
+/// The words of exclusions and active roles, and the question by the latter.
+fn shows_its_sitting(words: &[u64], a: u8, b: u8) {
+    let active = entry(words, 257, a);
+    assert_eq!(block::active_roles(words, a), active);
+    let excluded = a != b && bit(entry(words, 193, a.min(b)), a.max(b));
+    assert_eq!(block::is_excluded(words, a, b), excluded);
+    let reaches = |role, low| role == low || block::is_below(words, low, role);
+    let reached = |low| (0..64).any(|role| bit(active, role) && reaches(role, low));
+    let yes = (0..64).any(|low| bit(entry(words, 1, low), b) && reached(low));
+    assert_eq!(block::ask_active(words, a, b), answered(a, b, yes));
+    may_as_asked(block::may_active, block::ask_active, words, a, b);
 }
 
 /// The yeses among many asks are those that each ask gives by itself; a byte left over asks nothing.
@@ -145,7 +173,7 @@ fn takes(random: &mut Random, words: &mut [u64], load: bool) {
         true => block::load(words, &bytes),
         false => block::call(words, &bytes),
     };
-    assert!(answer < 32 * 256, "{answer}");
+    assert!(answer < 36 * 256, "{answer}");
     assert_eq!(words[WORDS..], before[WORDS..]);
     if answer >= 256 {
         assert_eq!(words, before);
@@ -178,6 +206,7 @@ fn any_contents_get_an_answer() {
             let load = random.one_in(8);
             takes(&mut random, &mut words, load);
             shows_its_words(&words, random.byte() & 127, random.byte() & 127);
+            shows_its_sitting(&words, random.byte() & 127, random.byte() & 127);
             shows_one_graph(&words, random.byte() & 63, random.byte() & 63);
             counts_yeses(&mut random, &words);
         }
@@ -194,5 +223,25 @@ fn fresh_touches_its_words_alone() {
         assert_eq!(block::fresh(&mut after), 0);
         assert!(after[..WORDS].iter().all(|word| *word == 0));
         assert_eq!(after[WORDS..], before[WORDS..]);
+    }
+}
+
+/// The image of a state, loaded over words of any contents, leaves the words that it keeps as they are and clears the others.
+#[test]
+fn a_load_clears_what_no_image_keeps() {
+    let mut random = Random::new(printed_seed());
+    for _ in 0..300 {
+        let saved = random_state(&mut random).save();
+        let mut words = words(&mut random, WORDS + 1);
+        let behind = words[WORDS];
+        assert_eq!(block::load(&mut words, &saved), 0);
+        assert!(words[SAVED..WORDS].iter().all(|word| *word == 0));
+        assert_eq!(words[WORDS], behind);
+        let (kept, mut image) = (words.clone(), [FILLER; LONGEST_IMAGE]);
+        words[SAVED..WORDS].fill(u64::MAX);
+        let length = block::save(&words, &mut image) as usize;
+        assert_eq!(image[..length], saved);
+        assert_eq!(block::load(&mut words, &image[..length]), 0);
+        assert_eq!(words, kept);
     }
 }

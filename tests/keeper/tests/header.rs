@@ -149,7 +149,7 @@ fn the_header_declares_what_the_benchmark_calls() {
 #[test]
 fn the_header_declares_what_the_source_exports() {
     let (header, source) = (header(), source());
-    assert_eq!(header.len(), 18);
+    assert_eq!(header.len(), 22);
     assert_eq!(header, source);
 }
 
@@ -219,7 +219,7 @@ fn of_variant(variant: &dyn std::fmt::Debug) -> String {
 #[test]
 fn the_header_names_the_wrappers_refusals() {
     let header = named("keeper_refusal");
-    assert_eq!(header.len(), 23);
+    assert_eq!(header.len(), 25);
     let importing = [SheetRefusal::BadSheet { row: 1 }, SheetRefusal::ShortTape];
     for (name, number) in header {
         let own = importing.iter().find(|refusal| refusal.number() == number);
@@ -234,7 +234,7 @@ fn the_header_names_the_wrappers_refusals() {
 #[test]
 fn the_header_names_the_wrappers_kinds() {
     let header = named("keeper_kind");
-    assert_eq!(header.len(), 12);
+    assert_eq!(header.len(), 15);
     for (name, kind) in header {
         let mut record = [0; RECORD_LENGTH];
         record[0] = kind;

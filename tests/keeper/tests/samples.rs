@@ -1,4 +1,5 @@
-//! Document 01's sample tape, its saved sample, and what it says of the edges of a record and an image.
+//! Document 01's sample tape, its saved sample, and what it says of the edges of a record and an image; and a tape of document
+//! 02's Item 3.
 
 use keeper::{Answer, Keeper, Refusal};
 use role_reference::generate::{record, short};
@@ -118,4 +119,60 @@ fn a_short_buffer_is_refused_and_left() {
     assert_eq!(keeper.save_into(&mut buffer), Ok(45));
     assert_eq!(buffer[..45], SAVED);
     assert_eq!(buffer[45..], [0xA5; 5]);
+}
+
+// ---- sitting down in one role ----
+
+/// Roles 2 {0}, 3 {1} and 4 {0,1,2}; seat 5 has role 4, and roles 2 and 3 exclude each other.
+fn desk() -> Vec<Vec<u8>> {
+    vec![
+        record(2, 2, 0, [0b1, 0, 0]),
+        record(2, 3, 0, [0b10, 0, 0]),
+        record(2, 4, 0, [0b111, 0, 0]),
+        short(10, 5, 4),
+        short(13, 3, 2),
+    ]
+}
+
+#[test]
+fn a_sitting_prints_its_lines() {
+    let mut tape = desk();
+    tape.extend([
+        short(14, 5, 2),
+        short(14, 5, 3),
+        short(14, 6, 2),
+        short(6, 2, 3),
+        short(15, 5, 2),
+        short(14, 5, 3),
+        short(12, 5, 0),
+    ]);
+    let lines = "1 0 0\n2 0 0\n3 0 0\n4 0 0\n5 0 0\n6 0 0\n7 35 2\n8 34 6\n9 35 2\n10 0 0\n11 0 0\n12 0 1\nend 12 5\n";
+    assert_eq!(printed(&tape.concat()), lines);
+}
+
+#[test]
+fn kind_15_is_known() {
+    let mut keeper = after_sample();
+    assert_eq!(
+        keeper.record(&short(15, 5, 3)),
+        Err(Refusal::NotSo { place: 5 })
+    );
+    assert_eq!(keeper.record(&short(16, 5, 3)), Err(Refusal::Malformed));
+}
+
+/// An image has the same bytes whatever is excluded and active.
+#[test]
+fn a_sitting_is_not_saved() {
+    let mut keeper = Keeper::fresh();
+    for record in desk() {
+        assert_eq!(keeper.record(&record), Ok(Answer::Accepted));
+    }
+    let mut plain = Keeper::fresh();
+    for record in &desk()[..4] {
+        assert_eq!(plain.record(record), Ok(Answer::Accepted));
+    }
+    assert_eq!(keeper.record(&short(14, 5, 2)), Ok(Answer::Accepted));
+    assert_eq!(keeper.save(), plain.save());
+    assert_eq!(keeper.load(&plain.save()), Ok(()));
+    assert_eq!(keeper, plain);
 }
