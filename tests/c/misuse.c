@@ -4,15 +4,19 @@
 #include "keeper.h"
 #include "tests.h"
 
-enum { SHORT = KEEPER_WORDS - 1, FILLER = 0xA5 };
+/* The words of a short block, and how many of a state's words an image keeps. */
+enum { SHORT = KEEPER_WORDS - 1, SAVED = 193, FILLER = 0xA5 };
 
-/* Role 2 has privileges 0 and 1, and seats 0 and 5 have role 2. */
+/* Role 2 has privileges 0 and 1, and seats 0 and 5 have role 2; at seat 5 it is active, and it excludes role 3 {4}. */
 static void sample(uint64_t *block)
 {
     CHECK(keeper_fresh(block, KEEPER_WORDS) == 0);
     CHECK(keeper_call_record(block, KEEPER_WORDS, keeper_record_add_by_privileges(2, keeper_single(0) | keeper_single(1))) == 0);
     CHECK(keeper_call_record(block, KEEPER_WORDS, keeper_record_assign(0, 2)) == 0);
     CHECK(keeper_call_record(block, KEEPER_WORDS, keeper_record_assign(5, 2)) == 0);
+    CHECK(keeper_call_record(block, KEEPER_WORDS, keeper_record_activate(5, 2)) == 0);
+    CHECK(keeper_call_record(block, KEEPER_WORDS, keeper_record_add_by_privileges(3, keeper_single(4))) == 0);
+    CHECK(keeper_call_record(block, KEEPER_WORDS, keeper_record_exclude(2, 3)) == 0);
 }
 
 /* ---- an ask taken for a test ---- */
@@ -65,6 +69,57 @@ static void may_is_true_exactly_where_the_ask_is_1(void)
     CHECK(!keeper_may(block, KEEPER_WORDS, 5, (uint32_t)-1));
 }
 
+/* ---- the question by active roles ---- */
+
+static void the_question_by_active_roles_says_yes_no_or_2(void)
+{
+    uint64_t block[KEEPER_WORDS];
+    sample(block);
+    CHECK(keeper_ask_active(block, KEEPER_WORDS, 5, 1) == 1 && keeper_may_active(block, KEEPER_WORDS, 5, 1));
+    CHECK(keeper_ask_active(block, KEEPER_WORDS, 5, 2) == 0 && !keeper_may_active(block, KEEPER_WORDS, 5, 2));
+    CHECK(keeper_ask_active(block, KEEPER_WORDS, 0, 1) == 0 && !keeper_may_active(block, KEEPER_WORDS, 0, 1));
+    CHECK(keeper_ask_active(block, KEEPER_WORDS, 64, 65) == 256 * KEEPER_UNKNOWN_NUMBER + 64);
+    CHECK(keeper_ask_active(block, KEEPER_WORDS, 5, 65) == 256 * KEEPER_UNKNOWN_NUMBER + 65);
+    CHECK(!keeper_may_active(block, KEEPER_WORDS, 64, 1) && !keeper_may_active(block, KEEPER_WORDS, 5, 64));
+}
+
+static void the_question_about_seat_261_is_seat_5s_and_may_active_is_false(void)
+{
+    uint64_t block[KEEPER_WORDS];
+    int seat = 256 + 5, privilege = 256 + 1;
+    sample(block);
+    CHECK(keeper_ask_active(block, KEEPER_WORDS, (uint8_t)seat, 1) == 1);
+    CHECK(!keeper_may_active(block, KEEPER_WORDS, (uint32_t)seat, 1));
+    CHECK(keeper_ask_active(block, KEEPER_WORDS, 5, (uint8_t)privilege) == 1);
+    CHECK(!keeper_may_active(block, KEEPER_WORDS, 5, (uint32_t)privilege));
+    CHECK(!keeper_may_active(block, KEEPER_WORDS, (uint32_t)-1, 1) && !keeper_may_active(block, KEEPER_WORDS, 5, (uint32_t)-1));
+}
+
+static void the_question_to_a_short_block_is_not_0_and_may_active_is_false(void)
+{
+    uint64_t block[KEEPER_WORDS];
+    sample(block);
+    CHECK(keeper_ask_active(block, SHORT, 5, 1) == KEEPER_NO_STATE && !keeper_may_active(block, SHORT, 5, 1));
+    CHECK(keeper_ask_active(NULL, 0, 5, 1) == KEEPER_NO_STATE && !keeper_may_active(NULL, 0, 5, 1));
+    CHECK(keeper_active_roles(block, SHORT, 5) == 0 && keeper_active_roles(NULL, 0, 5) == 0);
+    CHECK(!keeper_is_excluded(block, SHORT, 2, 3) && !keeper_is_excluded(NULL, 0, 2, 3));
+}
+
+static void may_active_is_true_exactly_where_the_question_is_1(void)
+{
+    uint64_t block[KEEPER_WORDS];
+    uint32_t seat, privilege;
+    sample(block);
+    for (seat = 0; seat < 600; seat++) {
+        for (privilege = 0; privilege < 600; privilege++) {
+            bool known = seat < 256 && privilege < 256;
+            bool yes = known && keeper_ask_active(block, KEEPER_WORDS, (uint8_t)seat, (uint8_t)privilege) == 1;
+            CHECK(keeper_may_active(block, KEEPER_WORDS, seat, privilege) == yes);
+            CHECK(yes == (seat == 5 && privilege < 2));
+        }
+    }
+}
+
 /* ---- blocks ---- */
 
 static void an_uninitialised_block_says_what_its_words_say(void)
@@ -72,22 +127,23 @@ static void an_uninitialised_block_says_what_its_words_say(void)
     uint64_t block[KEEPER_WORDS];
     uint8_t bytes[16] = { 0 };
     memset(block, 0xFF, sizeof block);
-    CHECK(keeper_may(block, KEEPER_WORDS, 5, 1));
+    CHECK(keeper_may(block, KEEPER_WORDS, 5, 1) && keeper_may_active(block, KEEPER_WORDS, 5, 1));
     CHECK(keeper_load(block, KEEPER_WORDS, bytes, sizeof bytes) == 256 * KEEPER_NO_IMAGE);
-    CHECK(keeper_may(block, KEEPER_WORDS, 5, 1));
+    CHECK(keeper_may(block, KEEPER_WORDS, 5, 1) && keeper_may_active(block, KEEPER_WORDS, 5, 1));
     CHECK(keeper_fresh(block, KEEPER_WORDS) == 0);
-    CHECK(!keeper_may(block, KEEPER_WORDS, 5, 1));
+    CHECK(!keeper_may(block, KEEPER_WORDS, 5, 1) && !keeper_may_active(block, KEEPER_WORDS, 5, 1));
 }
 
 static void a_short_block_is_told_by_every_answer(void)
 {
     uint64_t block[KEEPER_WORDS], before[KEEPER_WORDS];
-    keeper_record record = keeper_record_add_by_privileges(3, 4);
+    keeper_record record = keeper_record_add_by_privileges(4, 4);
     uint8_t image[KEEPER_LONGEST_IMAGE];
     uint32_t length;
     sample(block);
     memcpy(before, block, sizeof block);
     length = keeper_save(block, KEEPER_WORDS, image, sizeof image);
+    CHECK(SHORT == 320);
     CHECK(keeper_fresh(block, SHORT) == KEEPER_NO_STATE);
     CHECK(keeper_call_record(block, SHORT, record) == KEEPER_NO_STATE);
     CHECK(keeper_load(block, SHORT, image, length) == KEEPER_NO_STATE);
@@ -119,6 +175,8 @@ static void a_byte_above_63_shows_nothing(void)
         CHECK(!keeper_is_declared(block, KEEPER_WORDS, 2, far) && !keeper_is_declared(block, KEEPER_WORDS, far, 2));
         CHECK(keeper_seat_roles(block, KEEPER_WORDS, far) == 0);
         CHECK(keeper_seat_holds(block, KEEPER_WORDS, far) == 0);
+        CHECK(keeper_active_roles(block, KEEPER_WORDS, far) == 0);
+        CHECK(!keeper_is_excluded(block, KEEPER_WORDS, 2, far) && !keeper_is_excluded(block, KEEPER_WORDS, far, 2));
     }
 }
 
@@ -187,7 +245,27 @@ static void an_image_behind_other_bytes_loads(void)
     CHECK(keeper_fresh(loaded, KEEPER_WORDS) == 0);
     CHECK(keeper_load(loaded, KEEPER_WORDS, bytes, 100 + length) == 0);
     CHECK(keeper_image_length(bytes, 100 + length) == length);
-    CHECK(memcmp(block, loaded, sizeof block) == 0);
+    CHECK(memcmp(block, loaded, SAVED * sizeof block[0]) == 0);
+}
+
+/* An accepted load clears exclusions and active roles; a refused one keeps them with all the rest. */
+static void a_load_clears_what_no_image_keeps(void)
+{
+    uint64_t block[KEEPER_WORDS], before[KEEPER_WORDS];
+    uint8_t image[KEEPER_LONGEST_IMAGE];
+    uint32_t length;
+    size_t i;
+    sample(block);
+    memcpy(before, block, sizeof block);
+    length = keeper_save(block, KEEPER_WORDS, image, sizeof image);
+    CHECK(keeper_load(block, KEEPER_WORDS, image, length - 1) == 256 * KEEPER_NO_IMAGE);
+    CHECK(memcmp(before, block, sizeof block) == 0);
+    CHECK(keeper_load(block, KEEPER_WORDS, image, length) == 0);
+    CHECK(memcmp(before, block, SAVED * sizeof block[0]) == 0);
+    for (i = SAVED; i < KEEPER_WORDS; i++) {
+        CHECK(block[i] == 0);
+    }
+    CHECK(keeper_may(block, KEEPER_WORDS, 5, 1) && !keeper_may_active(block, KEEPER_WORDS, 5, 1));
 }
 
 static void an_image_before_other_bytes_is_refused_and_the_state_stays(void)
@@ -249,7 +327,7 @@ static void every_refusal_has_a_text_of_its_own(void)
 {
     uint32_t n, m;
     for (n = 0; n < 300; n++) {
-        bool known = n <= 9 || (20 <= n && n <= 33) || n == KEEPER_NUMBER((uint32_t)KEEPER_NO_STATE);
+        bool known = n <= 9 || (20 <= n && n <= 35) || n == KEEPER_NUMBER((uint32_t)KEEPER_NO_STATE);
         CHECK((strcmp(keeper_refusal_text(n), "no refusal has this number") != 0) == known);
         for (m = 0; known && m < n; m++) {
             CHECK(strcmp(keeper_refusal_text(n), keeper_refusal_text(m)) != 0);
@@ -263,6 +341,10 @@ int main(void)
     RUN(an_ask_for_seat_256_is_seat_0s_and_may_is_false);
     RUN(an_ask_of_a_short_block_is_not_0_and_may_is_false);
     RUN(may_is_true_exactly_where_the_ask_is_1);
+    RUN(the_question_by_active_roles_says_yes_no_or_2);
+    RUN(the_question_about_seat_261_is_seat_5s_and_may_active_is_false);
+    RUN(the_question_to_a_short_block_is_not_0_and_may_active_is_false);
+    RUN(may_active_is_true_exactly_where_the_question_is_1);
     RUN(an_uninitialised_block_says_what_its_words_say);
     RUN(a_short_block_is_told_by_every_answer);
     RUN(words_behind_the_state_stay);
@@ -271,6 +353,7 @@ int main(void)
     RUN(a_save_of_a_short_block_gives_no_length);
     RUN(a_save_into_a_short_buffer_gives_no_length);
     RUN(an_image_behind_other_bytes_loads);
+    RUN(a_load_clears_what_no_image_keeps);
     RUN(an_image_before_other_bytes_is_refused_and_the_state_stays);
     RUN(a_refused_import_gives_no_length);
     RUN(a_refusal_has_its_number_and_place);

@@ -53,6 +53,9 @@ static void a_record_is_laid_out_as_the_scope_says(void)
     same(keeper_record_assign(7, 9), "\x0a\x07\x09\0\0\0\0\0" "\0\0\0\0\0\0\0\0" "\0\0\0\0\0\0\0\0" "\0\0\0\0\0\0\0\0");
     same(keeper_record_unassign(7, 9), "\x0b\x07\x09\0\0\0\0\0" "\0\0\0\0\0\0\0\0" "\0\0\0\0\0\0\0\0" "\0\0\0\0\0\0\0\0");
     same(keeper_record_ask(7, 9), "\x0c\x07\x09\0\0\0\0\0" "\0\0\0\0\0\0\0\0" "\0\0\0\0\0\0\0\0" "\0\0\0\0\0\0\0\0");
+    same(keeper_record_exclude(7, 9), "\x0d\x07\x09\0\0\0\0\0" "\0\0\0\0\0\0\0\0" "\0\0\0\0\0\0\0\0" "\0\0\0\0\0\0\0\0");
+    same(keeper_record_activate(7, 9), "\x0e\x07\x09\0\0\0\0\0" "\0\0\0\0\0\0\0\0" "\0\0\0\0\0\0\0\0" "\0\0\0\0\0\0\0\0");
+    same(keeper_record_deactivate(7, 9), "\x0f\x07\x09\0\0\0\0\0" "\0\0\0\0\0\0\0\0" "\0\0\0\0\0\0\0\0" "\0\0\0\0\0\0\0\0");
 }
 
 static void a_single_has_its_member(void)
@@ -139,6 +142,53 @@ static void kinds_10_to_12_assign_unassign_and_ask(void)
     CHECK(keeper_seat_roles(block, KEEPER_WORDS, 63) == 0 && !keeper_may(block, KEEPER_WORDS, 63, 1));
 }
 
+static uint64_t active(uint8_t seat)
+{
+    return keeper_active_roles(block, KEEPER_WORDS, seat);
+}
+
+static void kind_13_makes_two_roles_exclude_each_other(void)
+{
+    start();
+    CHECK(take(keeper_record_exclude(3, 2)) == 0);
+    CHECK(keeper_is_excluded(block, KEEPER_WORDS, 2, 3) && keeper_is_excluded(block, KEEPER_WORDS, 3, 2));
+    CHECK(!keeper_is_excluded(block, KEEPER_WORDS, 2, 4) && !keeper_is_excluded(block, KEEPER_WORDS, 2, 2));
+    CHECK(take(keeper_record_exclude(2, 3)) == 256 * KEEPER_ALREADY_SO + 2);
+    CHECK(take(keeper_record_exclude(2, 2)) == 256 * KEEPER_SAME_ROLE + 2);
+    CHECK(take(keeper_record_exclude(2, 4)) == 256 * KEEPER_EXCLUDED + 2);
+    CHECK(take(keeper_record_add_edge(3, 2)) == 256 * KEEPER_EXCLUDED + 2);
+    CHECK(take(keeper_record_grant(3, 0)) == 256 * KEEPER_EXCLUDED + 2 && effective(3) == 2);
+    CHECK(take(keeper_record_remove_role(3, false)) == 0);
+    CHECK(!keeper_is_excluded(block, KEEPER_WORDS, 2, 3));
+}
+
+static void kinds_14_and_15_switch_a_role_on_and_off(void)
+{
+    start();
+    CHECK(take(keeper_record_activate(63, 2)) == 256 * KEEPER_NOT_REACHED + 63);
+    CHECK(take(keeper_record_assign(63, 4)) == 0);
+    CHECK(take(keeper_record_activate(63, 2)) == 0 && active(63) == 4);
+    CHECK(take(keeper_record_activate(63, 2)) == 256 * KEEPER_ALREADY_SO + 63);
+    CHECK(keeper_may_active(block, KEEPER_WORDS, 63, 0) && !keeper_may_active(block, KEEPER_WORDS, 63, 1));
+    CHECK(take(keeper_record_exclude(2, 3)) == 0);
+    CHECK(take(keeper_record_activate(63, 3)) == 256 * KEEPER_EXCLUDED + 2 && active(63) == 4);
+    CHECK(take(keeper_record_deactivate(63, 2)) == 0 && active(63) == 0);
+    CHECK(take(keeper_record_deactivate(63, 2)) == 256 * KEEPER_NOT_SO + 63);
+    CHECK(!keeper_may_active(block, KEEPER_WORDS, 63, 0) && keeper_may(block, KEEPER_WORDS, 63, 0));
+    CHECK(take(keeper_record_activate(63, 3)) == 0 && active(63) == 8);
+}
+
+static void an_active_role_that_no_role_of_the_seat_reaches_is_switched_off(void)
+{
+    start();
+    CHECK(take(keeper_record_assign(63, 4)) == 0);
+    CHECK(take(keeper_record_activate(63, 2)) == 0 && take(keeper_record_activate(63, 4)) == 0);
+    CHECK(take(keeper_record_assign(63, 3)) == 0);
+    CHECK(take(keeper_record_activate(63, 3)) == 0);
+    CHECK(take(keeper_record_unassign(63, 4)) == 0 && active(63) == 8);
+    CHECK(take(keeper_record_assign(63, 4)) == 0 && active(63) == 8);
+}
+
 /* ---- numbers ---- */
 
 /* The answer to a record with a number above 63: refused with 2 at that number, or at 255 where no byte holds it. */
@@ -168,6 +218,9 @@ static void a_number_above_63_is_refused_and_taken_for_no_other(void)
         CHECK(take(keeper_record_assign(n, 2)) == unknown(n) && take(keeper_record_assign(5, n)) == unknown(n));
         CHECK(take(keeper_record_unassign(n, 2)) == unknown(n) && take(keeper_record_unassign(5, n)) == unknown(n));
         CHECK(take(keeper_record_ask(n, 2)) == unknown(n) && take(keeper_record_ask(5, n)) == unknown(n));
+        CHECK(take(keeper_record_exclude(n, 2)) == unknown(n) && take(keeper_record_exclude(2, n)) == unknown(n));
+        CHECK(take(keeper_record_activate(n, 2)) == unknown(n) && take(keeper_record_activate(5, n)) == unknown(n));
+        CHECK(take(keeper_record_deactivate(n, 2)) == unknown(n) && take(keeper_record_deactivate(5, n)) == unknown(n));
     }
     CHECK(memcmp(before, block, sizeof block) == 0);
 }
@@ -183,6 +236,9 @@ int main(void)
     RUN(kinds_6_and_7_add_and_remove_an_edge);
     RUN(kinds_8_and_9_declare_and_lift);
     RUN(kinds_10_to_12_assign_unassign_and_ask);
+    RUN(kind_13_makes_two_roles_exclude_each_other);
+    RUN(kinds_14_and_15_switch_a_role_on_and_off);
+    RUN(an_active_role_that_no_role_of_the_seat_reaches_is_switched_off);
     RUN(a_number_above_63_is_refused_and_taken_for_no_other);
     return failed_tests > 0;
 }

@@ -30,6 +30,8 @@ static void import_sheet(void) { given = keeper_import(sheet, sheet_length, tape
 static void measured(void) { given = keeper_image_length(image, image_length); }
 static void may(void) { given = keeper_may(block, KEEPER_WORDS, 5, 1); }
 static void ask(void) { given = keeper_ask(block, KEEPER_WORDS, 5, 1); }
+static void may_active(void) { given = keeper_may_active(block, KEEPER_WORDS, 5, 1); }
+static void ask_active(void) { given = keeper_ask_active(block, KEEPER_WORDS, 5, 1); }
 static void count_yes(void) { given = keeper_count_yes(block, KEEPER_WORDS, image, sizeof image); }
 static void edge_count(void) { given = keeper_edge_count(block, KEEPER_WORDS); }
 static void effective(void) { given = keeper_effective(block, KEEPER_WORDS, 2); }
@@ -40,6 +42,8 @@ static void is_below(void) { given = keeper_is_below(block, KEEPER_WORDS, 63, 2)
 static void is_declared(void) { given = keeper_is_declared(block, KEEPER_WORDS, 1, 2); }
 static void seat_roles(void) { given = keeper_seat_roles(block, KEEPER_WORDS, 5); }
 static void seat_holds(void) { given = keeper_seat_holds(block, KEEPER_WORDS, 5); }
+static void active_roles(void) { given = keeper_active_roles(block, KEEPER_WORDS, 5); }
+static void is_excluded(void) { given = keeper_is_excluded(block, KEEPER_WORDS, 2, 3); }
 
 /* ---- how deep ---- */
 
@@ -96,12 +100,42 @@ static void the_deepest_chain(void)
     take(keeper_record_remove_role(30, true));
     take(keeper_record_add_by_place(30, keeper_single(63), keeper_single(31), keeper_single(29)));
     take(keeper_record_ask(5, 63));
+    take(keeper_record_activate(5, 63));
+    take(keeper_record_deactivate(5, 63));
+    take(keeper_record_activate(5, 40));
     take(keeper_record_unassign(5, 40));
+}
+
+/* Of 62 roles that hold one privilege each, roles 2 to 61 exclude the next one; every seat has one of them active, and role 63. */
+static void the_fullest_sitting(void)
+{
+    uint32_t n, m;
+    measure(fresh);
+    for (n = 2; n < 64; n++) {
+        take(keeper_record_add_by_privileges(n, keeper_single(n)));
+    }
+    for (n = 2; n < 62; n++) {
+        take(keeper_record_exclude(n, n + 1));
+    }
+    for (n = 0; n < 64; n++) {
+        m = 2 + n % 61;
+        take(keeper_record_assign(n, m));
+        take(keeper_record_assign(n, 63));
+        take(keeper_record_activate(n, m));
+        take(keeper_record_activate(n, 63));
+    }
+    record = keeper_record_add_edge(61, 62);
+    measure(call);
+    CHECK(given == 256 * KEEPER_EXCLUDED + 61);
+    take(keeper_record_grant(63, 0));
+    take(keeper_record_deactivate(5, 63));
+    take(keeper_record_unassign(6, 63));
+    CHECK(keeper_active_roles(block, KEEPER_WORDS, 6) == keeper_single(8));
 }
 
 static void what_a_full_state_shows_and_saves(void)
 {
-    void (*const shown[])(void) = { measured, may, ask, count_yes, edge_count, effective, direct, juniors, seniors, is_below, is_declared, seat_roles, seat_holds };
+    void (*const shown[])(void) = { measured, may, ask, may_active, ask_active, count_yes, edge_count, effective, direct, juniors, seniors, is_below, is_declared, seat_roles, seat_holds, active_roles, is_excluded };
     size_t i;
     measure(save);
     image_length = (uint32_t)given;
@@ -149,6 +183,8 @@ static void the_widest_sheet(void)
 int main(void)
 {
     RUN(the_deepest_chain);
+    RUN(what_a_full_state_shows_and_saves);
+    RUN(the_fullest_sitting);
     RUN(what_a_full_state_shows_and_saves);
     RUN(the_widest_sheet);
     printf("at most %u bytes of stack\n", (unsigned)most);
