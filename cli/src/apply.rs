@@ -3,9 +3,10 @@
 use crate::arguments::Arguments;
 use crate::file::{self, Contents, Replaced};
 use crate::meaning::meaning;
+use crate::show::count;
 use crate::text::{self, Record};
 use crate::{done, input, name, Failure, Outcome};
-use keeper::{Answer, Keeper, RECORD_LENGTH};
+use keeper::{Answer, Keeper, NUMBERS, RECORD_LENGTH};
 use std::ffi::OsString;
 use std::path::Path;
 
@@ -77,6 +78,23 @@ fn records(words: &Arguments, path: &Path) -> Result<(Vec<Record>, &'static str)
     Ok((records, "line"))
 }
 
+/// What a keeper holds that no image keeps, in a line; nothing where there is none of it.
+fn unkept(keeper: &Keeper) -> String {
+    let seats = (0..NUMBERS).filter(|seat| !keeper.active_roles(*seat).is_empty());
+    let (pairs, seats) = (keeper.exclusions().len(), seats.count());
+    let mut parts = Vec::new();
+    if pairs > 0 {
+        parts.push(count(pairs, "pair") + " of roles that exclude each other");
+    }
+    if seats > 0 {
+        parts.push("active roles of ".to_string() + &count(seats, "seat"));
+    }
+    match parts.is_empty() {
+        true => String::new(),
+        false => format!("not kept in the file: {}\n", parts.join(", ")),
+    }
+}
+
 /// Gives the records to the image, and replaces the file.
 pub fn apply(words: &[OsString]) -> Outcome {
     let known = ["--all-or-none", "--dry-run", "--quiet", "--tape", "--text"];
@@ -90,18 +108,20 @@ pub fn apply(words: &[OsString]) -> Outcome {
         mut front,
         mut keeper,
     } = file::read(words.path(0))?;
-    let before = keeper.clone();
+    let before = keeper.save();
     let (mut said, refused) = given(&mut keeper, &records, noun, words.has("--quiet"));
-    let stays = keeper == before || refused > 0 && words.has("--all-or-none");
+    let image = keeper.save();
+    let stays = image == before || refused > 0 && words.has("--all-or-none");
     let end = match held {
         Some(held) if !stays => {
-            front.extend(keeper.save());
+            front.extend(image);
             held.replace(&front)?;
             "the file is replaced"
         }
         _ => "the file is as it was",
     };
     let taken = records.len() - refused;
+    said += &unkept(&keeper);
     said += &format!("{taken} accepted, {refused} refused; {end}\n");
     done(refused == 0, said)
 }

@@ -42,6 +42,9 @@ Gives the records of TAPE, or of standard input where TAPE is '-', to the image 
 record's answer; a refused record changes nothing, and its line says why. The file is then replaced, whole or not at
 all. A file beside it, IMAGE.lock, keeps other keepers from changing it meanwhile.
 
+Roles that exclude each other and active roles hold within one run: an image does not keep them. Where there are any at the
+end, a line says so.
+
 TAPE is read as a tape where it has a zero byte, as every record of a call does, and else as text.
 
   --all-or-none    leaves the file as it was where a record is refused
@@ -102,7 +105,10 @@ Turns the text form of records into a tape, and a tape into that text. One recor
   seat 5 gets 3                            kind 10: seat 5, role 3
   seat 5 loses 3                           kind 11: seat 5, role 3
   ask seat 5 for 1                         kind 12: may seat 5 use privilege 1?
-  bytes 0d05                               the bytes themselves, base sixteen
+  exclude 3 4                              kind 13: roles 3 and 4 exclude each other
+  seat 5 switches on 3                     kind 14: role 3 becomes an active role of seat 5
+  seat 5 switches off 3                    kind 15: role 3 is no longer one
+  bytes ff05                               the bytes themselves, base sixteen
 
 Numbers are 0 to 255, also those that the keeper refuses; members of sets are 0 to 63, a range is 4..7, and the braces of
 a set that is not empty may be left out. A part of 'add' that is left out is empty. '#' starts a comment.

@@ -3,6 +3,7 @@
 mod apply;
 mod arguments;
 mod diagnosis;
+mod exclusion;
 mod file;
 mod help;
 mod meaning;

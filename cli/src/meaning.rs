@@ -1,5 +1,6 @@
 //! What a refusal means for the record that was refused, in plain words.
 
+use crate::exclusion;
 use crate::why::{list, way_down};
 use keeper::{Call, Keeper, Refusal, Set, MAX_ROLE, MIN_ROLE, RECORD_LENGTH};
 
@@ -18,8 +19,8 @@ fn malformed(record: &[u8]) -> String {
             29, 30, 31,
         ],
         2 => &[1, 8, 9, 10, 11, 12, 13, 14, 15],
-        3..=12 => &[1, 2],
-        _ => return format!("byte 0 is {kind}, and kinds are 1 to 12"),
+        3..=15 => &[1, 2],
+        _ => return format!("byte 0 is {kind}, and kinds are 1 to 15"),
     };
     if kind == 3 && record[2] > 1 {
         return format!("byte 2 is {}, and kind 3 takes 0 or 1 there", record[2]);
@@ -145,6 +146,12 @@ fn already(keeper: &Keeper, call: &Call) -> String {
             format!("the conflict of {first} and {second} is declared already")
         }
         Call::Assign { seat, role } => format!("seat {seat} has role {role} already"),
+        Call::Exclude { first, second } => {
+            format!("roles {first} and {second} exclude each other already")
+        }
+        Call::Activate { seat, role } => {
+            format!("seat {seat} has role {role} switched on already")
+        }
         _ => "it is so already".to_string(),
     }
 }
@@ -166,7 +173,32 @@ fn not_so(keeper: &Keeper, call: &Call) -> String {
         }
         Call::Lift { first, second } => format!("no conflict of {first} and {second} is declared"),
         Call::Unassign { seat, role } => format!("seat {seat} does not have role {role}"),
+        Call::Deactivate { seat, role } => {
+            format!("seat {seat} does not have role {role} switched on")
+        }
         _ => "it is not so".to_string(),
+    }
+}
+
+/// Refusal 5: what a role cannot be to itself.
+fn same_role(call: &Call, role: u8) -> String {
+    match call {
+        Call::Exclude { .. } => format!("role {role} cannot exclude itself"),
+        _ => format!("role {role} cannot be its own junior or senior"),
+    }
+}
+
+/// Refusal 34: the roles that the seat has instead.
+fn not_reached(keeper: &Keeper, call: &Call, refusal: Refusal) -> String {
+    let Call::Activate { seat, role } = *call else {
+        return refusal.to_string();
+    };
+    let roles = keeper.seat_roles(seat);
+    let said = format!("seat {seat} has {}", list("role", roles.members()));
+    match roles.count() {
+        0 => said,
+        1 => format!("{said}, which does not lie above role {role}"),
+        _ => format!("{said}, of which none lies above role {role}"),
     }
 }
 
@@ -251,6 +283,7 @@ pub fn meaning(keeper: &Keeper, record: &[u8], refusal: Refusal) -> String {
         }
         Refusal::EndRole { role: MIN_ROLE } => "role 0 is MinRole, which no call names".to_string(),
         Refusal::EndRole { role: MAX_ROLE } => "role 1 is MaxRole, which no call names".to_string(),
+        Refusal::SameRole { role } => same_role(&call, role),
         Refusal::AlreadySo { .. } => already(keeper, &call),
         Refusal::NotSo { .. } => not_so(keeper, &call),
         Refusal::ThroughJunior { .. } => through_junior(keeper, &call, refusal),
@@ -260,6 +293,10 @@ pub fn meaning(keeper: &Keeper, record: &[u8], refusal: Refusal) -> String {
             "without the edge role {senior} would still hold all that role {} holds",
             record[1]
         ),
+        Refusal::NotReached { .. } => not_reached(keeper, &call, refusal),
+        Refusal::Excluded { .. } => {
+            exclusion::reason(keeper, &call).unwrap_or_else(|| refusal.to_string())
+        }
         _ => closed(keeper, &call, refusal),
     }
 }

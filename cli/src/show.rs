@@ -28,7 +28,7 @@ fn seats(keeper: &Keeper) -> Vec<u8> {
 }
 
 /// A count with its noun.
-fn count(number: usize, noun: &str) -> String {
+pub fn count(number: usize, noun: &str) -> String {
     match number {
         1 => format!("1 {noun}"),
         _ => format!("{number} {noun}s"),

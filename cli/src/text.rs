@@ -24,7 +24,7 @@ pub struct WrongLine {
 }
 
 /// The kinds of two numbers: the words, a number where one is in capitals, and whether the first number is b of the record.
-const PAIRS: [(u8, &str, bool); 9] = [
+const PAIRS: [(u8, &str, bool); 12] = [
     (4, "grant PRIVILEGE to ROLE", true),
     (5, "withdraw PRIVILEGE from ROLE", true),
     (6, "edge ROLE to ROLE", false),
@@ -34,6 +34,9 @@ const PAIRS: [(u8, &str, bool); 9] = [
     (10, "seat SEAT gets ROLE", false),
     (11, "seat SEAT loses ROLE", false),
     (12, "ask seat SEAT for PRIVILEGE", false),
+    (13, "exclude ROLE ROLE", false),
+    (14, "seat SEAT switches on ROLE", false),
+    (15, "seat SEAT switches off ROLE", false),
 ];
 
 /// The parts of kind 1: the names of its sets, in the order of the record.
@@ -41,7 +44,7 @@ const PARTS: [&str; 3] = ["holds", "over", "under"];
 
 /// What a line may start with.
 const STARTS: &str =
-    "add, role, remove, grant, withdraw, edge, unedge, conflict, lift, seat, ask or bytes";
+    "add, role, remove, grant, withdraw, edge, unedge, conflict, lift, seat, ask, exclude or bytes";
 
 // ---- from text to bytes ----
 
@@ -102,16 +105,21 @@ fn plain(words: &mut Words) -> Result<Vec<u8>, Wrong> {
     }
 }
 
+/// Words between quotes, each once, as 'a', 'b' or 'c'.
+fn either<'a>(words: impl Iterator<Item = &'a str>) -> String {
+    let mut said: Vec<String> = words.map(|word| format!("'{word}'")).collect();
+    said.dedup();
+    match said.pop() {
+        Some(last) if !said.is_empty() => format!("{} or {last}", said.join(", ")),
+        last => last.unwrap_or_default(),
+    }
+}
+
 /// What is said where none of the forms goes on with the next word.
 fn unlike(forms: &[&(u8, &str, bool)], place: usize) -> String {
-    let wanted = |(_, form, _): &&(u8, &str, bool)| format!("'{}'", word_at(form, place));
-    let whole = |(_, form, _): &&(u8, &str, bool)| format!("'{form}'");
-    let list = |said: Vec<String>| said.join(" or ");
-    let wanted = list(forms.iter().map(wanted).collect());
-    format!(
-        "expected {wanted}, as in {}",
-        list(forms.iter().map(whole).collect())
-    )
+    let forms = forms.iter().map(|(_, form, _)| *form);
+    let wanted = either(forms.clone().map(|form| word_at(form, place)));
+    format!("expected {wanted}, as in {}", either(forms))
 }
 
 /// The word of a form at a place.
@@ -119,27 +127,29 @@ fn word_at<'a>(form: &'a str, place: usize) -> &'a str {
     form.split(' ').nth(place).unwrap_or_default()
 }
 
-/// Kinds 4 to 12, whose forms start with this word.
+/// The kinds of two numbers, whose forms start with this word.
 fn paired(words: &mut Words, first: &str) -> Result<Vec<u8>, Wrong> {
     let mut forms: Vec<_> = PAIRS
         .iter()
         .filter(|(_, form, _)| word_at(form, 0) == first)
         .collect();
-    let mut numbers = Vec::new();
-    for place in 1..forms[0].1.split(' ').count() {
+    let (mut numbers, mut place) = (Vec::new(), 1);
+    // Forms that start alike part at one of their words; the first of those left tells how long the form is.
+    while place < forms[0].1.split(' ').count() {
         let wanted = word_at(forms[0].1, place);
         if wanted.chars().all(char::is_uppercase) {
             let what = format!("the {}'s number", wanted.to_lowercase());
             numbers.push(words.number(&what)?);
-            continue;
+        } else {
+            let word = words.peek().unwrap_or_default();
+            let said = unlike(&forms, place);
+            forms.retain(|(_, form, _)| word_at(form, place) == word);
+            if forms.is_empty() {
+                return Err(words.wrong(said));
+            }
+            words.next();
         }
-        let word = words.peek().unwrap_or_default();
-        let said = unlike(&forms, place);
-        forms.retain(|(_, form, _)| word_at(form, place) == word);
-        if forms.is_empty() {
-            return Err(words.wrong(said));
-        }
-        words.next();
+        place += 1;
     }
     let (kind, _, crossed) = *forms[0];
     let (a, b) = match crossed {
@@ -252,6 +262,9 @@ fn call_text(call: &Call) -> String {
         Call::Assign { seat, role } => format!("seat {seat} gets {role}"),
         Call::Unassign { seat, role } => format!("seat {seat} loses {role}"),
         Call::Ask { seat, privilege } => format!("ask seat {seat} for {privilege}"),
+        Call::Exclude { first, second } => format!("exclude {first} {second}"),
+        Call::Activate { seat, role } => format!("seat {seat} switches on {role}"),
+        Call::Deactivate { seat, role } => format!("seat {seat} switches off {role}"),
     }
 }
 

@@ -12,13 +12,15 @@ fn sample() -> Folder {
     folder
 }
 
-/// Gives lines to a fresh image; the lines of the answers without the last, which counts them.
+/// Gives lines to a fresh image; the lines of the answers, without the last, which counts them, and one before it on what is
+/// not kept.
 fn answers(lines: &str) -> Vec<String> {
     let folder = Folder::new();
     folder.run(&["new", "image"]).is(0, "");
     let ran = folder.given(&["apply", "image", "-"], lines.as_bytes());
     let mut said: Vec<String> = ran.text().lines().map(str::to_string).collect();
     let end = said.pop().expect("a last line");
+    said.retain(|line| !line.starts_with("not kept in the file: "));
     let refused = said
         .iter()
         .filter(|line| line.contains(": refused with "))
@@ -122,8 +124,36 @@ fn an_asks_no_is_no_refusal() {
     assert!(answers("# nothing\n\n").is_empty());
 }
 
+/// What an image does not keep is said in one line, and the file is replaced for what it keeps alone.
+#[test]
+fn what_is_not_kept_is_said() {
+    let folder = Folder::new();
+    folder.run(&["new", "image"]).is(0, "");
+    let desk = b"role 2 {0}\nrole 3 {1}\nseat 5 gets 2\nexclude 2 3\nseat 5 switches on 2\n";
+    folder.given(&["apply", "--quiet", "image", "-"], desk).is(
+        0,
+        "not kept in the file: 1 pair of roles that exclude each other, active roles of 1 seat\n\
+         5 accepted, 0 refused; the file is replaced\n",
+    );
+    let image = folder.read("image");
+    let given = |lines: &[u8]| folder.given(&["apply", "--quiet", "image", "-"], lines);
+    given(b"exclude 3 2\n").is(
+        0,
+        "not kept in the file: 1 pair of roles that exclude each other\n\
+         1 accepted, 0 refused; the file is as it was\n",
+    );
+    given(b"seat 5 switches on 2\nseat 6 gets 3\nseat 6 switches on 3\nseat 6 loses 3\n").is(
+        0,
+        "not kept in the file: active roles of 1 seat\n\
+         4 accepted, 0 refused; the file is as it was\n",
+    );
+    given(b"seat 5 switches on 2\nseat 5 switches off 2\n")
+        .is(0, "2 accepted, 0 refused; the file is as it was\n");
+    assert_eq!(folder.read("image"), image);
+}
+
 /// Lines behind a small graph, and how the last of them is refused.
-const REFUSED: [(&str, &str); 25] = [
+const REFUSED: [(&str, &str); 41] = [
     ("role 64 {1}", "2, place 64: 64 is above 63, the highest role, privilege and seat"),
     ("grant 4 to 0", "3, place 0: role 0 is MinRole, which no call names"),
     ("conflict 4 4", "4, place 4: privilege 4 cannot be in conflict with itself"),
@@ -149,6 +179,22 @@ const REFUSED: [(&str, &str); 25] = [
     ("conflict 1 3", "29, place 4: role 4 holds both 1 and 3"),
     ("role 6 {7}\nconflict 7 2\nedge 6 to 4", "29, place 5: role 5 would hold 2 and 7, which are in conflict"),
     ("role 6 {7}\nconflict 7 1\nseat 9 gets 6\nseat 9 gets 4", "30, place 9: seat 9 would hold 1 and 7, which are in conflict"),
+    ("exclude 3 64", "2, place 64: 64 is above 63, the highest role, privilege and seat"),
+    ("seat 9 switches on 1", "3, place 1: role 1 is MaxRole, which no call names"),
+    ("exclude 3 3", "5, place 3: role 3 cannot exclude itself"),
+    ("seat 9 switches off 6", "21, place 6: there is no role 6"),
+    ("exclude 4 3\nexclude 3 4", "22, place 3: roles 3 and 4 exclude each other already"),
+    ("seat 9 gets 5\nseat 9 switches on 2\nseat 9 switches on 2", "22, place 9: seat 9 has role 2 switched on already"),
+    ("seat 9 gets 5\nseat 9 switches off 5", "23, place 9: seat 9 does not have role 5 switched on"),
+    ("seat 9 switches on 3", "34, place 9: seat 9 has no role"),
+    ("seat 9 gets 2\nseat 9 switches on 4", "34, place 9: seat 9 has role 2, which does not lie above role 4"),
+    ("seat 9 gets 2\nseat 9 gets 3\nseat 9 switches on 4", "34, place 9: seat 9 has roles 2 and 3, of which none lies above role 4"),
+    ("exclude 5 2", "35, place 2: role 2 lies below role 5 by way of role 4"),
+    ("seat 9 gets 5\nseat 9 switches on 5\nexclude 4 3", "35, place 3: seat 9 has role 5, which lies above both, switched on"),
+    ("exclude 4 3\nedge 3 to 2", "35, place 3: roles 3 and 4 exclude each other, and role 3 would lie below role 4 by way of role 2"),
+    ("exclude 4 3\nseat 9 gets 5\nseat 9 switches on 3\nseat 9 switches on 4", "35, place 3: roles 3 and 4 exclude each other, and seat 9 would have roles 3 and 4 switched on"),
+    ("exclude 2 3\nseat 9 gets 5\nseat 9 switches on 3\nseat 9 switches on 4", "35, place 2: roles 2 and 3 exclude each other, and seat 9 would have role 4, which lies above role 2, and role 3 switched on"),
+    ("role 6 {7}\nexclude 2 3\nseat 9 gets 6\nseat 9 gets 3\nseat 9 switches on 6\nseat 9 switches on 3\nedge 2 to 6", "35, place 2: roles 2 and 3 exclude each other, and seat 9 has role 6, which would lie above role 2, and role 3 switched on"),
 ];
 
 #[test]
@@ -164,7 +210,11 @@ fn a_refusal_says_what_is_wrong_and_where() {
 fn bytes_of_no_call_say_which_byte_is_wrong() {
     let bytes = |front: &str| format!("bytes {front:0<64}");
     let cases = [
-        (bytes("0d"), "byte 0 is 13, and kinds are 1 to 12"),
+        (bytes("10"), "byte 0 is 16, and kinds are 1 to 15"),
+        (
+            bytes("0e0501000001"),
+            "byte 5 is 1, and kind 14 leaves it zero",
+        ),
         (
             bytes("030502"),
             "byte 2 is 2, and kind 3 takes 0 or 1 there",
@@ -184,7 +234,7 @@ fn bytes_of_no_call_say_which_byte_is_wrong() {
     }
 }
 
-/// Records of the twelve kinds with small numbers, the same in every run.
+/// Records of every kind with small numbers, the same in every run.
 fn small_records(count: usize) -> Vec<u8> {
     let mut state = 5u64;
     let mut under = |most: u64| {
@@ -196,7 +246,7 @@ fn small_records(count: usize) -> Vec<u8> {
     let mut tape = Vec::new();
     for _ in 0..count {
         let mut record = [0; 32];
-        record[..3].copy_from_slice(&[1 + under(12), under(12), under(12)]);
+        record[..3].copy_from_slice(&[1 + under(15), under(12), under(12)]);
         match record[0] {
             1 => {
                 record[2] = 0;
@@ -213,7 +263,8 @@ fn small_records(count: usize) -> Vec<u8> {
     tape
 }
 
-/// Many of the records are refused, and for what only adds each refusal names the pair or the twin.
+/// Many of the records are refused, and for what only adds each refusal names the pair or the twin; 35 always names its
+/// pair and says what joins it.
 #[test]
 fn random_records_are_explained() {
     let folder = Folder::new();
@@ -222,13 +273,22 @@ fn random_records_are_explained() {
     let ran = folder.run(&["apply", "image", "tape"]);
     assert_eq!(ran.status, 1, "{}", ran.errors);
     let said: Vec<&str> = ran.text().lines().collect();
-    assert_eq!(said.len(), 20_001);
-    for number in [3, 4, 5, 20, 21, 22, 23, 24, 25, 26, 27, 28, 29, 30] {
+    assert_eq!(said.len(), 20_002);
+    for number in [3, 4, 5, 20, 21, 22, 23, 24, 25, 26, 27, 28, 29, 30, 34, 35] {
         let refused = format!("refused with {number}, ");
         assert!(said.iter().any(|line| line.contains(&refused)), "{refused}");
     }
     let adds = ["add", "role", "grant", "edge", "conflict", "seat"];
     for line in said {
+        assert!(!line.contains("one that it excludes"), "{line}");
+        if let Some((_, why)) = line.split_once(": refused with 35, place ") {
+            let (place, why) = why.split_once(": ").expect("a place and a reason");
+            let pair = format!("roles {place} and ");
+            assert!(
+                line.contains(": exclude ") || why.starts_with(&pair),
+                "{line}"
+            );
+        }
         let text = line.split(": ").nth(1).unwrap_or_default();
         if adds.iter().any(|word| text.starts_with(word)) {
             let vague =

@@ -59,6 +59,9 @@ fn kinds() -> Vec<(&'static str, Vec<u8>)> {
         ("seat 5 gets 3", short(10, 5, 3)),
         ("seat 5 loses 3", short(11, 5, 3)),
         ("ask seat 5 for 1", short(12, 5, 1)),
+        ("exclude 3 4", short(13, 3, 4)),
+        ("seat 5 switches on 3", short(14, 5, 3)),
+        ("seat 5 switches off 3", short(15, 5, 3)),
         ("grant 255 to 64", short(4, 64, 255)),
     ]
 }
@@ -71,7 +74,7 @@ fn every_kind_both_ways() {
     }
     let mut found: Vec<u8> = kinds().iter().map(|(_, bytes)| bytes[0]).collect();
     found.dedup();
-    assert_eq!(found[..12], (1..=12).collect::<Vec<u8>>());
+    assert_eq!(found[..15], (1..=15).collect::<Vec<u8>>());
 }
 
 #[test]
@@ -90,7 +93,7 @@ fn the_help_and_the_reference_have_every_kind() {
             .collect();
         let mut found: Vec<u8> = shown.iter().map(|form| written(form)[0]).collect();
         found.dedup();
-        assert_eq!(found, (1..=12).collect::<Vec<u8>>());
+        assert_eq!(found, (1..=15).collect::<Vec<u8>>());
     }
 }
 
@@ -144,7 +147,7 @@ fn reading_and_writing_gives_the_tape_again() {
         .flat_map(|(_, bytes)| bytes)
         .collect::<Vec<u8>>();
     for _ in 0..3000 {
-        let mut bytes = short(noise(14) as u8, noise(70) as u8, noise(70) as u8);
+        let mut bytes = short(noise(17) as u8, noise(70) as u8, noise(70) as u8);
         for _ in 0..[0, 0, 1, 2, 8][noise(5) as usize] {
             bytes[noise(32) as usize] = [0, 1, 255, noise(256) as u8][noise(4) as usize];
         }
@@ -159,7 +162,7 @@ fn reading_and_writing_gives_the_tape_again() {
 }
 
 /// A wrong line, what is said of it, and the place of the mark under it.
-const WRONG: [(&str, &str, usize); 39] = [
+const WRONG: [(&str, &str, usize); 42] = [
     (
         "fly 5",
         "no record starts with 'fly'; a line starts with add, role,",
@@ -180,8 +183,19 @@ const WRONG: [(&str, &str, usize); 39] = [
     ("grant 9 to 5 now", "the record ends before 'now'", 13),
     (
         "seat 5 has 3",
-        "expected 'gets' or 'loses', as in 'seat SEAT gets ROLE' or 'seat SEAT loses ROLE'",
+        "expected 'gets', 'loses' or 'switches', as in 'seat SEAT gets ROLE', 'seat SEAT loses ROLE', 'seat SEAT switches on ROLE' or 'seat SEAT switches off ROLE'",
         7,
+    ),
+    (
+        "seat 5 switches 3",
+        "expected 'on' or 'off', as in 'seat SEAT switches on ROLE' or 'seat SEAT switches off ROLE'",
+        16,
+    ),
+    ("seat 5 switches on", "the role's number is missing", 18),
+    (
+        "exclude 3 and 4",
+        "expected the role's number, but 'and' stands here",
+        10,
     ),
     (
         "ask 5 for 1",
