@@ -1,4 +1,4 @@
-//! The role keeper from Rust: from the first role to a yes.
+//! The role keeper from Rust: from the first role to a yes, and to a yes by the roles that a seat has switched on.
 
 use keeper::{Answer, Call, Keeper, Refusal, Set};
 
@@ -18,7 +18,7 @@ fn tell_ask(what: &str, yes: bool) {
     println!("{what}? {}", if yes { "yes" } else { "no" });
 }
 
-/// Adds a role, gives it to a seat, and asks.
+/// Adds a role, gives it to a seat, asks, and switches the role on.
 fn main() {
     let mut keeper = Keeper::fresh();
     tell("a fresh state", Ok(Answer::Accepted));
@@ -31,4 +31,9 @@ fn main() {
     tell("seat 5 gets role 3, which is absent", absent);
     tell_ask("may seat 5 use privilege 1", keeper.may(5, 1));
     tell_ask("may seat 5 use privilege 2", keeper.may(5, 2));
+    let by_active = "may seat 5 use privilege 1 by its active roles";
+    tell_ask(by_active, keeper.may_active(5, 1));
+    let activated = keeper.call(&Call::Activate { seat: 5, role: 2 });
+    tell("seat 5 switches on role 2", activated);
+    tell_ask(by_active, keeper.may_active(5, 1));
 }
