@@ -42,8 +42,8 @@ Gives the records of TAPE, or of standard input where TAPE is '-', to the image 
 record's answer; a refused record changes nothing, and its line says why. The file is then replaced, whole or not at
 all. A file beside it, IMAGE.lock, keeps other keepers from changing it meanwhile.
 
-Roles that exclude each other and active roles hold within one run: an image does not keep them. Where there are any at the
-end, a line says so.
+Roles that exclude each other and active roles hold within one run: the file does not keep them. Where there are any at
+the end, a line says so.
 
 TAPE is read as a tape where it has a zero byte, as every record of a call does, and else as text.
 
