@@ -121,9 +121,9 @@ active-removed = (refl, refl)
 unfoldable paired : Sitting
 paired = end seated (plain 13 3 4 ∷ [])
 
-refused-keeps : (answers paired (plain 7 2 3 ∷ []) ≡ refused 35 3 ∷ []) × (end paired (plain 7 2 3 ∷ []) ≡ paired)
+refused-keeps : (answers paired (plain 7 2 3 ∷ []) ≡ refused 35 3 ∷ []) × (is-active (end paired (plain 7 2 3 ∷ [])) 5 2 ≡ true) × (excluded (end paired (plain 7 2 3 ∷ [])) 4 3 ≡ true)
 unfolding computes spelled-out desk seated paired
-refused-keeps = (refl, refl)
+refused-keeps = (refl, refl, refl)
 
 -- 35 is judged after the switch-offs: of a sitting that no list leaves, the active roles of a seat without roles do not count.
 unfoldable damaged : Sitting
