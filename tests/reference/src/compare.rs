@@ -2,7 +2,7 @@
 
 use crate::generate::{image_list, list, shrink, Mix, Step, MIXES};
 use crate::random::Random;
-use crate::reference::{Reference, Set};
+use crate::reference::{has, members, one, Clash, Reference, Set};
 use std::cell::Cell;
 use std::fmt;
 use std::panic::{catch_unwind, set_hook, take_hook, AssertUnwindSafe};
@@ -12,7 +12,8 @@ use std::sync::Once;
 ///
 /// `set`, `direct` and `juniors` are asked for the numbers 0 to 63 and are 0
 /// for an absent role; `conflict` gives, under the lower privilege, the higher
-/// ones; `seat` gives the roles of a seat.
+/// ones; `seat` gives the roles of a seat. `pairs` gives, under the lower role,
+/// the higher ones that it excludes; `active` gives the active roles of a seat.
 pub trait Keeper {
     fn fresh() -> Self;
     /// Refusal number (0 for accepted) and place (1 or 0 for an ask).
@@ -28,6 +29,11 @@ pub trait Keeper {
     fn seat(&self, seat: u8) -> u64;
     fn edge_count(&self) -> u64;
     fn ask(&self, seat: u8, privilege: u8) -> (u8, u8);
+    fn pairs(&self, role: u8) -> u64;
+    fn active(&self, seat: u8) -> u64;
+    /// Whether the seat's active roles reach one with the privilege: 2 and its
+    /// place, or 0 and 1 for yes or 0 for no.
+    fn question(&self, seat: u8, privilege: u8) -> (u8, u8);
 
     /// Saves into a lent buffer: (0, length written), or (9, 0). A keeper that
     /// fills buffers itself replaces this; else its vector is copied here.
@@ -43,7 +49,7 @@ pub trait Keeper {
 
 // ---- the whole state as words ----
 
-/// The reference's whole state.
+/// The reference's whole state, and what its question answers.
 #[derive(Clone, PartialEq)]
 pub struct Words {
     pub roles: Set,
@@ -53,6 +59,10 @@ pub struct Words {
     pub conflicts: [Set; 64],
     pub seats: [Set; 64],
     pub edge_count: u64,
+    pub exclusions: [Set; 64],
+    pub active: [Set; 64],
+    /// Under each seat, the privileges for which the question says yes.
+    pub active_privileges: [Set; 64],
 }
 
 impl Words {
@@ -65,8 +75,32 @@ impl Words {
             conflicts: reference.conflicts(),
             seats: reference.seats(),
             edge_count: reference.edges().len() as u64,
+            exclusions: reference.exclusions(),
+            active: reference.active(),
+            active_privileges: active_privileges(reference),
         }
     }
+
+    /// Some pair and some active role are there.
+    fn has_sitting(&self) -> bool {
+        self.exclusions != [0; 64] && self.active != [0; 64]
+    }
+
+    /// Some active role of this state isn't active in the next.
+    fn loses_active(&self, next: &Words) -> bool {
+        let mut seats = self.active.iter().zip(&next.active);
+        seats.any(|(before, after)| before & !after != 0)
+    }
+}
+
+fn active_privileges(reference: &Reference) -> [Set; 64] {
+    let yes = |seat: u8, privilege: u8| reference.question(seat, privilege).place == 1;
+    let mut words = [0; 64];
+    for seat in (0..64).filter(|seat| reference.active_of_seat(*seat) != 0) {
+        let privileges = (0..64).filter(|privilege| yes(seat, *privilege));
+        words[seat as usize] = privileges.fold(0, |set, privilege| set | one(privilege));
+    }
+    words
 }
 
 type Check = Result<(), String>;
@@ -112,36 +146,109 @@ fn same_state<K: Keeper>(keeper: &K, words: &Words) -> Check {
         &words.conflicts,
     )?;
     same_words("roles of seat", |seat| keeper.seat(seat), &words.seats)?;
-    same("edge count", keeper.edge_count(), words.edge_count)
+    same("edge count", keeper.edge_count(), words.edge_count)?;
+    same_words(
+        "excluded by role",
+        |role| keeper.pairs(role),
+        &words.exclusions,
+    )?;
+    same_words(
+        "active roles of seat",
+        |seat| keeper.active(seat),
+        &words.active,
+    )
+}
+
+/// Compares the question for each seat.
+fn same_questions<K: Keeper>(keeper: &K, words: &Words) -> Check {
+    for seat in 0..64u8 {
+        let yes = words.active_privileges[seat as usize];
+        for privilege in members(asked_of(words, seat)) {
+            let expected = (0, u8::from(has(yes, privilege)));
+            let found = keeper.question(seat, privilege);
+            if found != expected {
+                let what = format!("question of seat {seat}, privilege {privilege}");
+                return same(&what, found, expected);
+            }
+        }
+    }
+    Ok(())
+}
+
+/// The privileges to ask for: all of them where the seat has active roles, else
+/// the lowest that its assigned roles hold, where the question still says no.
+fn asked_of(words: &Words, seat: u8) -> Set {
+    if words.active[seat as usize] != 0 {
+        return Set::MAX;
+    }
+    let assigned = members(words.seats[seat as usize]).into_iter();
+    let held = assigned.fold(0, |held, role| held | words.sets[role as usize]);
+    match held {
+        0 => one(seat),
+        _ => held & held.wrapping_neg(),
+    }
 }
 
 // ---- counting ----
 
 /// Every refusal number is below this.
-const NUMBERS: usize = 32;
+const NUMBERS: usize = 36;
 
-/// The refusal numbers.
+/// The kinds are 1 to this.
+const KINDS: usize = 15;
+
+/// The refusal numbers of calls and images; 32 and 33 are the importer's.
 fn refusals() -> impl Iterator<Item = usize> {
-    (1..=9).chain(20..=31)
+    (1..=9).chain(20..=31).chain(34..=35)
 }
 
 /// For each kind from 1, the refusals that can arise in it. Those left out
 /// can't: kinds 2 and 3 change no seat's union for the worse, kinds 3, 5 and 7
 /// only shrink sets, and kinds 3, 4, 6 and 7 empty no role.
-const POSSIBLE: [&[usize]; 12] = [
-    &[1, 2, 3, 5, 20, 21, 25, 27, 28, 29, 30],
+///
+/// 35 needs a role that newly lies below another, a pair or an active role.
+/// Kind 2 and kind 3 with b 1 change no set of another ordinary role, so those
+/// lie as they lay; kinds 8 to 12 and 15 change no graph and add no pair and
+/// no active role. In kinds 1, 4 and 6 a senior's set grows around another,
+/// and in kinds 3 with b 0, 5 and 7 a set shrinks into another.
+const POSSIBLE: [&[usize]; KINDS] = [
+    &[1, 2, 3, 5, 20, 21, 25, 27, 28, 29, 30, 35],
     &[1, 2, 3, 20, 27, 28, 29],
-    &[1, 2, 3, 21, 24, 28],
-    &[1, 2, 3, 21, 22, 28, 29, 30],
-    &[1, 2, 3, 21, 23, 31, 27, 28],
-    &[1, 2, 3, 5, 21, 22, 25, 28, 29, 30],
-    &[1, 2, 3, 5, 21, 23, 26, 28],
+    &[1, 2, 3, 21, 24, 28, 35],
+    &[1, 2, 3, 21, 22, 28, 29, 30, 35],
+    &[1, 2, 3, 21, 23, 31, 27, 28, 35],
+    &[1, 2, 3, 5, 21, 22, 25, 28, 29, 30, 35],
+    &[1, 2, 3, 5, 21, 23, 26, 28, 35],
     &[1, 2, 4, 22, 29, 30],
     &[1, 2, 4, 23],
     &[1, 2, 3, 21, 22, 30],
     &[1, 2, 3, 21, 23],
     &[1, 2],
+    &[1, 2, 3, 5, 21, 22, 35],
+    &[1, 2, 3, 21, 22, 34, 35],
+    &[1, 2, 3, 21, 23],
 ];
+
+/// The ways a pair can clash, in the order of their discriminants.
+const CLASHES: [(Clash, &str); 3] = [
+    (Clash::Joined, "joined"),
+    (Clash::ByOneMember, "by one member"),
+    (Clash::ByTwoMembers, "by two members"),
+];
+
+/// Each kind that 35 can refuse can be refused in each way, but that kind 14
+/// joins no roles.
+fn can_clash(kind: usize, clash: Clash) -> bool {
+    POSSIBLE[kind - 1].contains(&35) && (kind, clash) != (14, Clash::Joined)
+}
+
+/// The kinds that can switch an active role off. Kinds 1, 2, 4, 5 and 6 keep
+/// every edge, and so every path: whatever an assigned role reached it still
+/// reaches. Kind 3 puts edges in the place of the paths through a, so it
+/// switches off a alone; kind 7 takes b's reach of a alone. The later kinds but
+/// 11 take no edge and no assigned role, and what kind 15 takes out is no
+/// switch-off.
+const SWITCHING: [usize; 3] = [3, 7, 11];
 
 /// What has been seen in a run.
 #[derive(Clone, Debug)]
@@ -155,11 +262,23 @@ pub struct Counts {
     /// By refusal number.
     pub refused: [usize; NUMBERS],
     /// Refused calls by kind, then by refusal number.
-    pub refused_in_kind: [[usize; NUMBERS]; 13],
+    pub refused_in_kind: [[usize; NUMBERS]; KINDS + 1],
     /// By kind.
-    pub accepted: [usize; 13],
+    pub accepted: [usize; KINDS + 1],
     pub yes: usize,
     pub no: usize,
+    /// Calls refused with 35 by kind, then by the way of the clash.
+    pub clashed: [[usize; CLASHES.len()]; KINDS + 1],
+    /// Accepted calls that switched an active role off, by kind.
+    pub switched_off: [usize; KINDS + 1],
+    /// Calls refused with 35 that would have switched an active role off.
+    pub held_back: usize,
+    pub question_yes: usize,
+    pub question_no: usize,
+    /// Loads that cleared pairs and active roles.
+    pub cleared: usize,
+    /// Refused loads beside pairs and active roles.
+    pub kept: usize,
 }
 
 impl Counts {
@@ -172,10 +291,17 @@ impl Counts {
             reloads: 0,
             loaded: 0,
             refused: [0; NUMBERS],
-            refused_in_kind: [[0; NUMBERS]; 13],
-            accepted: [0; 13],
+            refused_in_kind: [[0; NUMBERS]; KINDS + 1],
+            accepted: [0; KINDS + 1],
             yes: 0,
             no: 0,
+            clashed: [[0; CLASHES.len()]; KINDS + 1],
+            switched_off: [0; KINDS + 1],
+            held_back: 0,
+            question_yes: 0,
+            question_no: 0,
+            cleared: 0,
+            kept: 0,
         }
     }
 
@@ -189,8 +315,17 @@ impl Counts {
 
     fn refuse(&mut self, kind: Option<u8>, number: usize) {
         self.refused[number] += 1;
-        if let Some(kind @ 1..=12) = kind {
-            self.refused_in_kind[kind as usize][number] += 1;
+        let kind = kind.map_or(0, usize::from);
+        if (1..=KINDS).contains(&kind) {
+            self.refused_in_kind[kind][number] += 1;
+        }
+    }
+
+    fn question(&mut self, answer: (u8, u8)) {
+        match answer {
+            (0, 1) => self.question_yes += 1,
+            (0, _) => self.question_no += 1,
+            _ => {}
         }
     }
 
@@ -203,11 +338,18 @@ impl Counts {
         }
     }
 
-    fn image(&mut self, number: u8) {
+    fn image(&mut self, number: u8, before: &Words) {
+        let sitting = usize::from(before.has_sitting());
         self.images += 1;
         match number {
-            0 => self.loaded += 1,
-            _ => self.refused[number as usize] += 1,
+            0 => {
+                self.loaded += 1;
+                self.cleared += sitting;
+            }
+            _ => {
+                self.refused[number as usize] += 1;
+                self.kept += sitting;
+            }
         }
     }
 
@@ -215,7 +357,7 @@ impl Counts {
     pub fn missing(&self) -> Vec<String> {
         let unseen = refusals().filter(|number| self.refused[*number] == 0);
         let mut missing: Vec<String> = unseen.map(|number| format!("refusal {number}")).collect();
-        let idle = (1..=12).filter(|kind| self.accepted[*kind] == 0);
+        let idle = (1..=KINDS).filter(|kind| self.accepted[*kind] == 0);
         missing.extend(idle.map(|kind| format!("kind {kind} accepted")));
         let others = [
             (self.yes, "an ask's yes"),
@@ -223,8 +365,18 @@ impl Counts {
             (self.loaded, "a loaded image"),
             (self.saves, "a save"),
             (self.reloads, "a reload"),
+            (self.question_yes, "a question's yes"),
+            (self.question_no, "a question's no"),
+            (self.held_back, "a switch-off that 35 holds back"),
+            (self.cleared, "a load that clears"),
+            (self.kept, "a refused load that keeps"),
         ];
         missing.extend(self.missing_in_kinds());
+        missing.extend(self.missing_clashes());
+        let idle = SWITCHING
+            .iter()
+            .filter(|kind| self.switched_off[**kind] == 0);
+        missing.extend(idle.map(|kind| format!("kind {kind} switching off")));
         missing.extend(
             others
                 .iter()
@@ -245,6 +397,24 @@ impl Counts {
         }
         missing
     }
+
+    fn missing_clashes(&self) -> Vec<String> {
+        let seen = self.seen_clashes().into_iter();
+        let unseen = seen.filter(|(_, _, count)| *count == 0);
+        unseen
+            .map(|(kind, way, _)| format!("kind {kind} refused 35 {way}"))
+            .collect()
+    }
+
+    /// Each kind that 35 can refuse, each way of the clash, and how often.
+    fn seen_clashes(&self) -> Vec<(usize, &'static str, usize)> {
+        let mut seen = Vec::new();
+        for kind in 1..=KINDS {
+            let ways = CLASHES.iter().filter(|(clash, _)| can_clash(kind, *clash));
+            seen.extend(ways.map(|(clash, way)| (kind, *way, self.clashed[kind][*clash as usize])));
+        }
+        seen
+    }
 }
 
 impl fmt::Display for Counts {
@@ -260,20 +430,31 @@ impl fmt::Display for Counts {
             self.loaded, self.saves, self.reloads, self.yes, self.no
         )?;
         write!(out, "accepted by kind:")?;
-        for kind in 1..=12 {
+        for kind in 1..=KINDS {
             write!(out, " {kind}:{}", self.accepted[kind])?;
         }
         write!(out, "\nrefused by number:")?;
         for number in refusals() {
             write!(out, " {number}:{}", self.refused[number])?;
         }
-        for kind in 1..=12 {
+        for kind in 1..=KINDS {
             write!(out, "\nkind {kind} refused:")?;
             for number in refusals().filter(|number| self.refused_in_kind[kind][*number] > 0) {
                 write!(out, " {number}:{}", self.refused_in_kind[kind][number])?;
             }
         }
-        Ok(())
+        for (kind, way, count) in self.seen_clashes() {
+            write!(out, "\nkind {kind} refused 35 {way}: {count}")?;
+        }
+        write!(out, "\nswitched off by kind:")?;
+        for kind in SWITCHING {
+            write!(out, " {kind}:{}", self.switched_off[kind])?;
+        }
+        write!(
+            out,
+            "; held back by 35: {}\nquestions: yes {}, no {}; loads that clear {}, refused loads that keep {}",
+            self.held_back, self.question_yes, self.question_no, self.cleared, self.kept
+        )
     }
 }
 
@@ -303,10 +484,15 @@ impl<K: Keeper> Pair<K> {
             Step::Load(bytes) => self.take_load(bytes, counts)?,
             Step::Save => self.take_save(counts)?,
             Step::Reload(ahead) => self.take_reload(ahead, counts)?,
-            Step::Ask(seat, privilege) => self.take_ask(*seat, *privilege)?,
-            Step::AskAll => self.take_ask_all()?,
+            Step::Ask(seat, privilege) => self.take_ask(*seat, *privilege, counts)?,
+            Step::AskAll => self.take_ask_all(counts)?,
         }
-        same_state(&self.keeper, &self.words)
+        self.same_all()
+    }
+
+    fn same_all(&self) -> Check {
+        same_state(&self.keeper, &self.words)?;
+        same_questions(&self.keeper, &self.words)
     }
 
     fn take_call(&mut self, record: &[u8], counts: &mut Counts) -> Check {
@@ -314,16 +500,34 @@ impl<K: Keeper> Pair<K> {
         let answer = self.reference.call(record);
         let expected = (answer.number, answer.place);
         counts.call(record, expected);
-        if answer.number == 0 {
-            self.words = Words::of(&self.reference);
+        match answer.number {
+            0 => self.accept(record[0], counts),
+            35 => self.count_clash(record, counts),
+            _ => {}
         }
         same("answer (number, place)", found, expected)
+    }
+
+    fn accept(&mut self, kind: u8, counts: &mut Counts) {
+        let before = std::mem::replace(&mut self.words, Words::of(&self.reference));
+        if kind != 15 && before.loses_active(&self.words) {
+            counts.switched_off[kind as usize] += 1;
+        }
+    }
+
+    /// Counts how the pair clashes that 35 names, and a switch-off that the
+    /// refusal holds back. The refused record finds the state as it was.
+    fn count_clash(&self, record: &[u8], counts: &mut Counts) {
+        if let Some((clash, switching)) = self.reference.clash_of(record) {
+            counts.clashed[record[0] as usize][clash as usize] += 1;
+            counts.held_back += usize::from(switching);
+        }
     }
 
     fn take_load(&mut self, bytes: &[u8], counts: &mut Counts) -> Check {
         let found = self.keeper.load(bytes);
         let expected = self.reference.load(bytes).err().unwrap_or(0);
-        counts.image(expected);
+        counts.image(expected, &self.words);
         if expected == 0 {
             self.words = Words::of(&self.reference);
         }
@@ -374,28 +578,36 @@ impl<K: Keeper> Pair<K> {
 
     fn reload_reference(&mut self, bytes: &[u8]) -> Check {
         let mut reference = Reference::fresh();
-        let loaded = reference.load(bytes) == Ok(()) && reference == self.reference;
+        let loaded = reference.load(bytes) == Ok(());
+        let alike = reference.is_saved_alike(&self.reference);
         self.reference = reference;
-        if !loaded {
+        self.words = Words::of(&self.reference);
+        if !loaded || !alike {
             return Err("the reference's own image doesn't load as the graph saved".to_string());
         }
         Ok(())
     }
 
-    fn take_ask(&self, seat: u8, privilege: u8) -> Check {
-        let found = self.keeper.ask(seat, privilege);
+    fn take_ask(&self, seat: u8, privilege: u8, counts: &mut Counts) -> Check {
         let answer = self.reference.ask(seat, privilege);
-        if found == (answer.number, answer.place) {
+        let question = self.reference.question(seat, privilege);
+        let expected = [answer, question].map(|answer| (answer.number, answer.place));
+        counts.question(expected[1]);
+        let found = [
+            self.keeper.ask(seat, privilege),
+            self.keeper.question(seat, privilege),
+        ];
+        if found == expected {
             return Ok(());
         }
-        let what = format!("ask seat {seat}, privilege {privilege}");
-        same(&what, found, (answer.number, answer.place))
+        let what = format!("ask and question of seat {seat}, privilege {privilege}");
+        same(&what, found, expected)
     }
 
-    fn take_ask_all(&self) -> Check {
+    fn take_ask_all(&self, counts: &mut Counts) -> Check {
         for seat in 0..=64 {
             for privilege in 0..=64 {
-                self.take_ask(seat, privilege)?;
+                self.take_ask(seat, privilege, counts)?;
             }
         }
         Ok(())
@@ -435,7 +647,7 @@ pub fn first_difference<K: Keeper>(steps: &[Step], counts: &mut Counts) -> Optio
 
 fn walk<K: Keeper>(steps: &[Step], counts: &mut Counts, at: &mut usize) -> Check {
     let mut pair: Pair<K> = Pair::fresh();
-    same_state(&pair.keeper, &pair.words)?;
+    pair.same_all()?;
     for (place, step) in steps.iter().enumerate() {
         *at = place;
         pair.take(step, counts)?;
@@ -647,6 +859,19 @@ impl Keeper for Reference {
 
     fn ask(&self, seat: u8, privilege: u8) -> (u8, u8) {
         let answer = Reference::ask(self, seat, privilege);
+        (answer.number, answer.place)
+    }
+
+    fn pairs(&self, role: u8) -> u64 {
+        self.exclusions_of(role)
+    }
+
+    fn active(&self, seat: u8) -> u64 {
+        self.active_of_seat(seat)
+    }
+
+    fn question(&self, seat: u8, privilege: u8) -> (u8, u8) {
+        let answer = Reference::question(self, seat, privilege);
         (answer.number, answer.place)
     }
 

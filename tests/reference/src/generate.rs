@@ -19,9 +19,10 @@ pub enum Step {
     /// Save, load the image behind these bytes into a fresh keeper, go on
     /// with that keeper.
     Reload(Vec<u8>),
-    /// Ask for a seat and a privilege without a record.
+    /// Ask for a seat and a privilege without a record, by the assigned roles
+    /// and by the active ones.
     Ask(u8, u8),
-    /// Ask for every seat and privilege from 0 to 64.
+    /// The same for every seat and privilege from 0 to 64.
     AskAll,
 }
 
@@ -90,8 +91,8 @@ fn part_of(random: &mut Random, set: Set, most: usize) -> Set {
 
 // ---- calls that the state is likely to accept ----
 
-/// How often each of the kinds 1 to 12 is drawn.
-const WEIGHTS: [usize; 12] = [9, 8, 5, 11, 9, 9, 9, 5, 4, 8, 6, 6];
+/// How often each of the kinds 1 to 15 is drawn.
+const WEIGHTS: [usize; 15] = [9, 8, 5, 11, 9, 9, 9, 5, 4, 8, 6, 6, 5, 9, 4];
 
 fn weighted_kind(random: &mut Random) -> u8 {
     let mut left = random.under(WEIGHTS.iter().sum());
@@ -120,6 +121,9 @@ fn likely(random: &mut Random, state: &Reference, numbers: &Numbers) -> Vec<u8> 
         9 => likely_lift(random, state),
         10 => likely_seat(random, state, numbers),
         11 => likely_unseat(random, state),
+        13 => likely_exclusion(random, state),
+        14 => likely_activation(random, state),
+        15 => likely_deactivation(random, state),
         _ => None,
     };
     found.unwrap_or_else(|| likely_ask(random, state, numbers))
@@ -143,15 +147,13 @@ fn likely_place(random: &mut Random, state: &Reference, numbers: &Numbers) -> Op
     let direct =
         one(number(random, &numbers.privileges)) | sparse_set(random, &numbers.privileges, 1);
     let juniors = part_of(random, state.roles(), 2);
-    let within = |senior: &u8| {
-        let held = state.effective(*senior);
-        members(juniors)
-            .iter()
-            .any(|junior| held & !state.effective(*junior) == 0)
+    let in_junior = |senior: &u8| {
+        let mut juniors = members(juniors).into_iter();
+        juniors.any(|junior| within(state, *senior, junior))
     };
     let above = members(state.roles())
         .into_iter()
-        .filter(|role| !within(role));
+        .filter(|role| !in_junior(role));
     let above = above.fold(0, |set, role| set | one(role));
     Some(record(
         1,
@@ -202,17 +204,25 @@ fn likely_withdrawal(random: &mut Random, state: &Reference, numbers: &Numbers) 
     Some(short(5, role, random.pick(&privileges)?))
 }
 
-fn likely_edge(random: &mut Random, state: &Reference) -> Option<Vec<u8>> {
-    let apart = |a: u8, b: u8| {
-        let (first, second) = (state.effective(a), state.effective(b));
-        first & !second != 0 && second & !first != 0
-    };
-    let junior = present_role(random, state)?;
+/// A role present and another that lies neither below nor above it.
+fn two_apart(random: &mut Random, state: &Reference) -> Option<(u8, u8)> {
+    let apart = |a: u8, b: u8| !within(state, a, b) && !within(state, b, a);
+    let first = present_role(random, state)?;
     let others: Vec<u8> = members(state.roles())
         .into_iter()
-        .filter(|other| apart(junior, *other))
+        .filter(|other| apart(first, *other))
         .collect();
-    Some(short(6, junior, random.pick(&others)?))
+    Some((first, random.pick(&others)?))
+}
+
+/// The second role reaches the first; both are present.
+fn within(state: &Reference, role: u8, senior: u8) -> bool {
+    state.effective(role) & !state.effective(senior) == 0
+}
+
+fn likely_edge(random: &mut Random, state: &Reference) -> Option<Vec<u8>> {
+    let (junior, senior) = two_apart(random, state)?;
+    Some(short(6, junior, senior))
 }
 
 fn likely_edge_removal(random: &mut Random, state: &Reference) -> Option<Vec<u8>> {
@@ -238,17 +248,17 @@ fn likely_conflict(random: &mut Random, state: &Reference, numbers: &Numbers) ->
 }
 
 fn likely_lift(random: &mut Random, state: &Reference) -> Option<Vec<u8>> {
-    let conflicts = state.conflicts();
-    let lowers: Vec<u8> = (0..64)
-        .filter(|lower| conflicts[*lower as usize] != 0)
-        .collect();
-    let lower = random.pick(&lowers)?;
-    let higher = random.pick(&members(conflicts[lower as usize]))?;
-    let turned = random.one_in(2);
-    Some(if turned {
-        short(9, higher, lower)
-    } else {
-        short(9, lower, higher)
+    let (first, second) = declared_pair(random, &state.conflicts())?;
+    Some(short(9, first, second))
+}
+
+/// One of the pairs, in either order.
+fn declared_pair(random: &mut Random, pairs: &[Set; 64]) -> Option<(u8, u8)> {
+    let lower = random.pick(&taken(pairs))?;
+    let higher = random.pick(&members(pairs[lower as usize]))?;
+    Some(match random.one_in(2) {
+        true => (higher, lower),
+        false => (lower, higher),
     })
 }
 
@@ -258,15 +268,60 @@ fn likely_seat(random: &mut Random, state: &Reference, numbers: &Numbers) -> Opt
     Some(short(10, seat, random.pick(&members(free))?))
 }
 
+/// The numbers whose word isn't empty.
+fn taken(words: &[Set; 64]) -> Vec<u8> {
+    (0..64)
+        .filter(|number| words[*number as usize] != 0)
+        .collect()
+}
+
 fn taken_seats(state: &Reference) -> Vec<u8> {
-    let seats = state.seats();
-    (0..64).filter(|seat| seats[*seat as usize] != 0).collect()
+    taken(&state.seats())
+}
+
+/// One of the seats that have active roles.
+fn active_seat(random: &mut Random, state: &Reference) -> Option<u8> {
+    random.pick(&taken(&state.active()))
 }
 
 fn likely_unseat(random: &mut Random, state: &Reference) -> Option<Vec<u8>> {
     let seat = random.pick(&taken_seats(state))?;
     let role = random.pick(&members(state.seats()[seat as usize]))?;
     Some(short(11, seat, role))
+}
+
+fn likely_exclusion(random: &mut Random, state: &Reference) -> Option<Vec<u8>> {
+    let repeated = declared_pair(random, &state.exclusions());
+    let pair = repeated.filter(|_| random.one_in(10));
+    let (first, second) = pair.or_else(|| two_apart(random, state))?;
+    Some(short(13, first, second))
+}
+
+/// The roles that some role of the seat reaches.
+fn reached_from(state: &Reference, seat: u8) -> Set {
+    let assigned = members(state.roles_of_seat(seat));
+    let reached = |role: &u8| assigned.iter().any(|senior| within(state, *role, *senior));
+    let roles = members(state.roles()).into_iter().filter(reached);
+    roles.fold(0, |set, role| set | one(role))
+}
+
+/// A role that the seat reaches; now and then one that it doesn't reach, or
+/// one that is active already.
+fn likely_activation(random: &mut Random, state: &Reference) -> Option<Vec<u8>> {
+    let seat = random.pick(&taken_seats(state))?;
+    let (reached, active) = (reached_from(state, seat), state.active_of_seat(seat));
+    let roles = match random.under(12) {
+        0 => state.roles() & !reached,
+        1 => active,
+        _ => reached & !active,
+    };
+    Some(short(14, seat, random.pick(&members(roles))?))
+}
+
+fn likely_deactivation(random: &mut Random, state: &Reference) -> Option<Vec<u8>> {
+    let seat = active_seat(random, state)?;
+    let role = random.pick(&members(state.active_of_seat(seat)))?;
+    Some(short(15, seat, role))
 }
 
 fn likely_ask(random: &mut Random, state: &Reference, numbers: &Numbers) -> Vec<u8> {
@@ -349,6 +404,234 @@ fn likely_or_straining(random: &mut Random, state: &Reference, numbers: &Numbers
     likely(random, state, numbers)
 }
 
+// ---- calls around pairs of roles and active roles ----
+
+/// The kinds that 35 can refuse; kind 3 with b 0 alone, since with b 1 no other
+/// set changes.
+const CLASHING: [u8; 8] = [1, 3, 4, 5, 6, 7, 13, 14];
+
+/// Without pairs only kind 13 can be refused so.
+const NO_PAIRS: [Set; 64] = [0; 64];
+
+/// How many records are tried for one that 35 refuses.
+const TRIES: usize = 12;
+
+/// A record that 35 refuses, of a kind drawn evenly; nothing where none of a
+/// few records of the kind is such a one.
+fn clashing(random: &mut Random, state: &Reference, numbers: &Numbers) -> Option<Vec<u8>> {
+    let kind = match state.exclusions() {
+        NO_PAIRS => 13,
+        _ => random.pick(&CLASHING)?,
+    };
+    let clashes = |record: &Vec<u8>| state.clash_of(record).is_some();
+    let mut tries = (0..TRIES).filter_map(|_| attempt(random, state, numbers, kind));
+    tries.find(clashes)
+}
+
+/// A record of one of the kinds that 35 can refuse, with numbers that are
+/// present.
+fn attempt(random: &mut Random, state: &Reference, numbers: &Numbers, kind: u8) -> Option<Vec<u8>> {
+    match kind {
+        1 => attempt_place(random, state, numbers),
+        3 => Some(short(3, present_role(random, state)?, 0)),
+        4 => likely_grant(random, state, numbers),
+        5 => likely_withdrawal(random, state, numbers),
+        6 => likely_edge(random, state),
+        7 => likely_edge_removal(random, state),
+        13 => {
+            let (first, second) = (present_role(random, state)?, present_role(random, state)?);
+            Some(short(13, first, second))
+        }
+        _ => likely_activation(random, state),
+    }
+}
+
+/// A role added between two that lie apart.
+fn attempt_place(random: &mut Random, state: &Reference, numbers: &Numbers) -> Option<Vec<u8>> {
+    let role = absent_role(random, state, numbers)?;
+    let (junior, senior) = two_apart(random, state)?;
+    let direct = one(number(random, &numbers.privileges));
+    Some(record(1, role, 0, [direct, one(junior), one(senior)]))
+}
+
+/// A record that switches an active role off where it is accepted: the role
+/// goes, the edge by which the seat reaches it goes, or the seat loses a role.
+fn switching(random: &mut Random, state: &Reference) -> Option<Vec<u8>> {
+    let seat = active_seat(random, state)?;
+    let (assigned, active) = (state.roles_of_seat(seat), state.active_of_seat(seat));
+    match random.under(3) {
+        0 => {
+            let seated = state.seats().iter().fold(0, |all, roles| all | roles);
+            let role = random.pick(&members(active & !seated))?;
+            Some(short(3, role, random.under(2) as u8))
+        }
+        1 => {
+            let carries = |edge: &&(u8, u8)| has(active, edge.0) && has(assigned, edge.1);
+            let edges: Vec<(u8, u8)> = state.edges().iter().filter(carries).copied().collect();
+            let (junior, senior) = random.pick(&edges)?;
+            Some(short(7, junior, senior))
+        }
+        _ => Some(short(11, seat, random.pick(&members(assigned))?)),
+    }
+}
+
+/// A record that makes or unmakes pairs and active roles, one that 35 refuses,
+/// one that switches a role off, or another likely one.
+fn sitting(random: &mut Random, state: &Reference, numbers: &Numbers) -> Vec<u8> {
+    let found = match random.under(12) {
+        0 | 1 => likely_exclusion(random, state),
+        2 | 3 => likely_activation(random, state),
+        4 => likely_seat(random, state, numbers),
+        5 => likely_privileges(random, state, numbers),
+        6 | 7 => clashing(random, state, numbers),
+        8 => switching(random, state),
+        _ => None,
+    };
+    found.unwrap_or_else(|| likely(random, state, numbers))
+}
+
+// ---- scenes that end in 35 ----
+
+/// Roles, privileges and seats that one scene has for itself.
+struct Cast {
+    roles: [u8; 5],
+    privileges: [u8; 5],
+    seats: [u8; 2],
+}
+
+/// The numbers from `low` to 63 in groups, none in two of them.
+fn groups<const SIZE: usize>(random: &mut Random, low: u8) -> Vec<[u8; SIZE]> {
+    let mut numbers: Vec<u8> = (low..=63).collect();
+    random.shuffle(&mut numbers);
+    let groups = numbers.chunks_exact(SIZE);
+    groups
+        .map(|group| group.try_into().expect("the group has this size"))
+        .collect()
+}
+
+/// As many casts as the numbers allow.
+fn casts(random: &mut Random) -> Vec<Cast> {
+    let (roles, privileges) = (groups(random, 2), groups(random, 0));
+    let numbers = roles.into_iter().zip(privileges).zip(groups(random, 0));
+    let cast = |((roles, privileges), seats)| Cast {
+        roles,
+        privileges,
+        seats,
+    };
+    numbers.map(cast).collect()
+}
+
+/// Two roles, `lower` and `upper`, lie apart until the last call puts the one
+/// below the other.
+struct Scene<'c> {
+    cast: &'c Cast,
+    last: Vec<u8>,
+}
+
+fn by_privileges(role: u8, privileges: &[u8]) -> Vec<u8> {
+    record(2, role, 0, [role_set(privileges), 0, 0])
+}
+
+/// The seat gets the role, and it is made active.
+fn seated(seat: u8, role: u8) -> Vec<Vec<u8>> {
+    vec![short(10, seat, role), short(14, seat, role)]
+}
+
+impl<'c> Scene<'c> {
+    /// The last call is of a kind drawn evenly. Kinds 3 with b 0, 5 and 7 take
+    /// `own` from the lower role, kinds 1, 4 and 6 give it to the upper one.
+    fn draw(random: &mut Random, cast: &'c Cast) -> Scene<'c> {
+        let [junior, lower, upper, _, added] = cast.roles;
+        let [own, _, _, _, fresh] = cast.privileges;
+        let last = [
+            record(1, added, 0, [one(fresh), one(lower), one(upper)]),
+            short(3, junior, 0),
+            short(4, upper, own),
+            short(5, lower, own),
+            short(6, lower, upper),
+            short(7, junior, lower),
+        ];
+        let last = last[random.under(last.len())].clone();
+        Scene { cast, last }
+    }
+
+    fn drops_junior(&self) -> bool {
+        matches!(self.last[0], 3 | 7)
+    }
+
+    fn shrinks_lower(&self) -> bool {
+        self.drops_junior() || self.last[0] == 5
+    }
+
+    /// The junior, where the last call drops it, and the lower role. Half of
+    /// these juniors are active, so that 35 holds their switching off back.
+    fn below(&self, random: &mut Random) -> Vec<Vec<u8>> {
+        let [junior, lower, ..] = self.cast.roles;
+        let [own, shared, ..] = self.cast.privileges;
+        let [_, seat] = self.cast.seats;
+        let mut records = Vec::new();
+        if self.drops_junior() {
+            records.push(by_privileges(junior, &[own]));
+        }
+        records.push(match self.shrinks_lower() {
+            true => by_privileges(lower, &[own, shared]),
+            false => by_privileges(lower, &[own]),
+        });
+        if self.drops_junior() && random.one_in(2) {
+            records.extend([short(10, seat, lower), short(14, seat, junior)]);
+        }
+        records
+    }
+
+    /// The upper role and a pair that breaks when the lower role comes below
+    /// it: the two are the pair, or the upper one is active and lies above the
+    /// pair's other role, or that role is active too.
+    fn above(&self, random: &mut Random) -> Vec<Vec<u8>> {
+        let [_, lower, upper, third, _] = self.cast.roles;
+        let [_, shared, rest, apart, _] = self.cast.privileges;
+        let [seat, _] = self.cast.seats;
+        let mut held = vec![rest];
+        if self.shrinks_lower() {
+            held.push(shared);
+        }
+        let with = |more: &[u8]| by_privileges(upper, &[&held, more].concat());
+        let other = by_privileges(third, &[apart]);
+        let pair = short(13, third, lower);
+        match random.under(3) {
+            0 => vec![with(&[]), short(13, lower, upper)],
+            1 => [vec![other, with(&[apart]), pair], seated(seat, upper)].concat(),
+            _ => {
+                let both = [seated(seat, upper), seated(seat, third)].concat();
+                [vec![other, with(&[])], both, vec![pair]].concat()
+            }
+        }
+    }
+}
+
+/// The records of a scene.
+fn scene(random: &mut Random, cast: &Cast) -> Vec<Vec<u8>> {
+    let scene = Scene::draw(random, cast);
+    let (below, above) = (scene.below(random), scene.above(random));
+    [below, above, vec![scene.last]].concat()
+}
+
+/// Several scenes at once, the records of each in their order.
+fn scenes(random: &mut Random) -> Vec<Vec<u8>> {
+    let mut scenes: Vec<_> = casts(random)
+        .iter()
+        .map(|cast| scene(random, cast).into_iter())
+        .collect();
+    let mut records = Vec::new();
+    while !scenes.is_empty() {
+        let place = random.under(scenes.len());
+        match scenes[place].next() {
+            Some(record) => records.push(record),
+            None => drop(scenes.swap_remove(place)),
+        }
+    }
+    records
+}
+
 // ---- calls made blindly ----
 
 /// Any number: mostly in range, else just above it, else any byte.
@@ -383,7 +666,7 @@ fn any_role(random: &mut Random, state: &Reference) -> u8 {
 
 /// A well-formed record with any numbers.
 fn blind(random: &mut Random, state: &Reference) -> Vec<u8> {
-    let kind = random.between(1, 12) as u8;
+    let kind = random.between(1, 15) as u8;
     let (a, b) = (any_role(random, state), any_role(random, state));
     match kind {
         1 => {
@@ -398,15 +681,19 @@ fn blind(random: &mut Random, state: &Reference) -> Vec<u8> {
         }
         2 => record(2, any_number(random), 0, [blind_set(random, state), 0, 0]),
         3 => short(3, a, random.under(2) as u8),
-        6 | 7 => short(kind, a, b),
-        10 | 11 => blind_seat(random, state, kind),
+        6 | 7 | 13 => short(kind, a, b),
+        10 | 11 | 14 | 15 => blind_seat(random, state, kind),
         4 | 5 => short(kind, a, any_number(random)),
-        _ => short(kind, any_number(random), any_number(random)),
+        _ => {
+            let a = any_number(random);
+            let same = random.one_in(8);
+            short(kind, a, if same { a } else { any_number(random) })
+        }
     }
 }
 
-/// Any seat and role; half the time a seat that has the role, where there is
-/// one.
+/// Any seat and role, now and then an end role; half the time a seat that has
+/// the role, where there is one.
 fn blind_seat(random: &mut Random, state: &Reference, kind: u8) -> Vec<u8> {
     let taken = random.pick(&taken_seats(state));
     match taken {
@@ -414,6 +701,7 @@ fn blind_seat(random: &mut Random, state: &Reference, kind: u8) -> Vec<u8> {
             let roles = members(state.seats()[seat as usize]);
             short(kind, seat, random.pick(&roles).unwrap_or(0))
         }
+        _ if random.one_in(10) => short(kind, any_number(random), random.under(2) as u8),
         _ => short(kind, any_number(random), any_role(random, state)),
     }
 }
@@ -434,7 +722,7 @@ const LONGEST_DAMAGED: usize = 70;
 
 fn damaged(random: &mut Random, state: &Reference) -> Vec<u8> {
     let mut bytes = likely(random, state, &FEW);
-    match random.under(6) {
+    match random.under(7) {
         0 => {
             let length = random.between(0, LONGEST_DAMAGED);
             random.bytes(length)
@@ -450,6 +738,7 @@ fn damaged(random: &mut Random, state: &Reference) -> Vec<u8> {
             bytes
         }
         4 => known_kind_with_noise(random),
+        5 => next_kind(random, bytes),
         _ => {
             let place = random.between(2, RECORD_LENGTH - 1);
             bytes[place] = 1 << random.under(8);
@@ -472,10 +761,16 @@ fn resized(random: &mut Random, mut bytes: Vec<u8>) -> Vec<u8> {
 
 fn known_kind_with_noise(random: &mut Random) -> Vec<u8> {
     let mut bytes = random.bytes(RECORD_LENGTH);
-    bytes[0] = random.between(1, 12) as u8;
+    bytes[0] = random.between(1, 15) as u8;
     if random.one_in(2) {
         bytes[3..8].fill(0);
     }
+    bytes
+}
+
+/// The kind is replaced by one just above the known ones.
+fn next_kind(random: &mut Random, mut bytes: Vec<u8>) -> Vec<u8> {
+    bytes[0] = random.between(16, 20) as u8;
     bytes
 }
 
@@ -493,24 +788,38 @@ pub enum Mix {
     Layered,
     /// A loaded image, then calls.
     FromImage,
+    /// Pairs of roles and active roles, kept up long enough to meet 35 and
+    /// switch-offs, with loads that clear them and refused ones that don't.
+    Sitting,
+    /// Scenes that end in 35, then the like.
+    Scenes,
 }
 
-pub const MIXES: [Mix; 8] = [
+pub const MIXES: [Mix; 11] = [
     Mix::Few,
     Mix::Wide,
+    Mix::Sitting,
     Mix::Damaged,
     Mix::Layered,
     Mix::Few,
     Mix::Wide,
+    Mix::Sitting,
     Mix::FromImage,
+    Mix::Scenes,
     Mix::Few,
 ];
+
+/// How many calls there are for one reload in most mixes. A reload drops pairs
+/// and active roles, so that a sitting has fewer.
+const CALLS_PER_RELOAD: usize = 24;
+const CALLS_PER_RELOAD_IN_SITTING: usize = 150;
 
 /// A list of steps in the making, with the guide that follows it.
 struct Maker<'r> {
     random: &'r mut Random,
     guide: Reference,
     steps: Vec<Step>,
+    calls_per_reload: usize,
 }
 
 impl<'r> Maker<'r> {
@@ -519,6 +828,7 @@ impl<'r> Maker<'r> {
             random,
             guide: Reference::fresh(),
             steps: Vec::new(),
+            calls_per_reload: CALLS_PER_RELOAD,
         }
     }
 
@@ -533,9 +843,11 @@ impl<'r> Maker<'r> {
         if self.random.one_in(12) {
             self.steps.push(Step::Save);
         }
-        if self.random.one_in(24) {
+        if self.random.one_in(self.calls_per_reload) {
             let length = self.random.under(40);
             self.steps.push(Step::Reload(self.random.bytes(length)));
+            let reloaded = self.guide.load(&self.guide.save());
+            reloaded.expect("a saved image loads");
         }
         if self.random.one_in(6) {
             let (seat, privilege) = (any_number(self.random), any_number(self.random));
@@ -582,10 +894,37 @@ impl<'r> Maker<'r> {
         self.call_likely(edits, &ALL);
     }
 
+    fn call_scenes(&mut self) {
+        self.calls_per_reload = CALLS_PER_RELOAD_IN_SITTING;
+        for record in scenes(self.random) {
+            self.call(record);
+        }
+    }
+
+    fn call_sitting(&mut self, count: usize, numbers: &Numbers) {
+        self.calls_per_reload = CALLS_PER_RELOAD_IN_SITTING;
+        for _ in 0..count {
+            let record = sitting(self.random, &self.guide, numbers);
+            self.call(record);
+            if self.random.one_in(25) {
+                let image = flawed_image(self.random, &self.guide);
+                self.load(image);
+            }
+            if self.random.one_in(150) {
+                self.load(self.guide.save());
+            }
+        }
+    }
+
+    /// Loads the bytes, which may be refused.
+    fn load(&mut self, bytes: Vec<u8>) {
+        let _ = self.guide.load(&bytes);
+        self.steps.push(Step::Load(bytes));
+    }
+
     fn load_start(&mut self) {
         let image = sound_image(self.random);
-        let _ = self.guide.load(&image);
-        self.steps.push(Step::Load(image));
+        self.load(image);
     }
 }
 
@@ -601,6 +940,14 @@ pub fn list(random: &mut Random, mix: Mix) -> Vec<Step> {
             maker.load_start();
             maker.call_likely(30, &ALL);
             maker.call_wide(40);
+        }
+        Mix::Sitting => {
+            let numbers = if maker.random.one_in(4) { ALL } else { FEW };
+            maker.call_sitting(200, &numbers);
+        }
+        Mix::Scenes => {
+            maker.call_scenes();
+            maker.call_sitting(50, &ALL);
         }
     }
     maker.steps

@@ -1,6 +1,8 @@
-//! The role keeper of document 01 and of item 1 of document 02, in its
+//! The role keeper of document 01 and of items 1 and 3 of document 02, in its
 //! plainest form: a map of roles to effective sets, an explicit list of edges,
 //! closing by joining until nothing changes, redrawing by the definition.
+//! Beside this saved state stand the pairs of roles that exclude each other
+//! and the active roles of each seat, which no image holds.
 //!
 //! A set is a 64-bit word, member n at bit n. Refusals are judged in the order
 //! of their numbers, except that 31 stands directly after 23.
@@ -8,19 +10,28 @@
 //! Choices where the documents are open:
 //!
 //! - The place of refusals 4, 22, 23 and 31 is byte 1 of the record as given,
-//!   so "declare 5, 2" has place 5, and kinds 10 and 11 have the seat as place.
+//!   so "declare 5, 2" has place 5, and kinds 10, 11, 14 and 15 have the seat
+//!   as place. Pairs of roles are unordered, so 22 in kind 13 meets a pair in
+//!   either order.
 //! - A privilege that a role "doesn't hold at all" (23 in kind 5) is one that
 //!   isn't effective in it; so no call meets both 23 and 31.
 //! - In kind 3 a b above 1 is refused with 1 whatever its size, never with 2.
 //! - "Another named role" (21) is any named role that isn't the role to be
-//!   added; so for kinds 3 to 7, 10 and 11 all the named roles count.
+//!   added; so for kinds 3 to 7, 10, 11 and 13 to 15 all the named roles count.
 //! - "Included" in 26 allows equality.
 //! - In kind 1, refusal 25 has as its place the lowest junior for which some
 //!   senior equals it or lies below it.
 //! - "MaxRole included" in kind 3: MaxRole gets the privileges where it is an
 //!   immediate senior of a; a role with ordinary seniors only gives to them.
-//! - 27 to 30 can't arise in kinds 9, 11 and 12, since no state that the
+//! - 24 looks at assigned roles alone, so a role that is merely active may be
+//!   removed; it is then switched off, as no role reaches an absent one.
+//! - 27 to 30 can't arise in kinds 9 and 11 to 15, since no state that the
 //!   calls and images reach breaks them; they aren't judged there.
+//! - 35 is of "any kind", so switching off and 35 follow every call that no
+//!   other number refuses, on the state that the call would leave.
+//! - Both roles of a pair are reached by an active set when one member reaches
+//!   both, or one member the one and another member the other.
+//! - The question looks at the seat first, then at the privilege, for 2.
 //! - A trailer whose distance fits its sum but lies above 5,182 isn't refused
 //!   with 6, as 6 names the sum alone. Such an image has too many entries to
 //!   be strictly ascending and is refused with 7.
@@ -100,6 +111,19 @@ fn refuse_at(number: u8, place: Option<u8>) -> Result<(), Answer> {
     }
 }
 
+/// Refusal 2 for a number above 63, the seat before the privilege; else yes
+/// or no.
+fn asked(seat: u8, privilege: u8, yes: impl FnOnce() -> bool) -> Answer {
+    let above = [seat, privilege].into_iter().find(|number| *number > 63);
+    match above {
+        Some(place) => Answer { number: 2, place },
+        None => Answer {
+            number: 0,
+            place: u8::from(yes()),
+        },
+    }
+}
+
 // ---- records ----
 
 struct Record {
@@ -135,7 +159,7 @@ fn fields_fit(record: &Record) -> bool {
         1 => record.b == 0,
         2 => record.b == 0 && record.sets[1..] == [0; 2],
         3 => record.b <= 1 && record.sets == [0; 3],
-        4..=12 => record.sets == [0; 3],
+        4..=15 => record.sets == [0; 3],
         _ => false,
     }
 }
@@ -167,8 +191,8 @@ impl Record {
             ]
             .concat(),
             2..=5 => vec![self.a],
-            6 | 7 => vec![self.a, self.b],
-            10 | 11 => vec![self.b],
+            6 | 7 | 13 => vec![self.a, self.b],
+            10 | 11 | 14 | 15 => vec![self.b],
             _ => Vec::new(),
         }
     }
@@ -190,7 +214,7 @@ impl Record {
         refuse_at(2, self.numbers().into_iter().find(|number| *number > 63))?;
         refuse_at(3, self.roles().into_iter().find(|role| is_end(*role)))?;
         refuse_at(4, self.conflict_with_itself())?;
-        refuse_at(5, self.edge_to_itself())
+        refuse_at(5, self.role_beside_itself())
     }
 
     fn conflict_with_itself(&self) -> Option<u8> {
@@ -198,9 +222,10 @@ impl Record {
         same.then_some(self.a)
     }
 
-    fn edge_to_itself(&self) -> Option<u8> {
+    /// An edge of a role with itself, or a role that would exclude itself.
+    fn role_beside_itself(&self) -> Option<u8> {
         let same = match self.kind {
-            6 | 7 => self.a == self.b,
+            6 | 7 | 13 => self.a == self.b,
             1 => has(self.juniors() | self.seniors(), self.a),
             _ => false,
         };
@@ -363,6 +388,32 @@ impl Graph {
             .collect()
     }
 
+    /// Under each role present, the roles that it reaches: itself and those
+    /// below it.
+    fn reached(&self) -> [Set; 64] {
+        let mut words = [0; 64];
+        for senior in &self.effective {
+            for junior in &self.effective {
+                let (senior, junior) = ((*senior.0, *senior.1), (*junior.0, *junior.1));
+                if senior.0 == junior.0 || below(junior, senior) {
+                    words[senior.0 as usize] |= one(junior.0);
+                }
+            }
+        }
+        words
+    }
+
+    /// Under each role present, itself and the roles with a path to it. Each
+    /// role starts with its own number, which the edges carry upward.
+    fn joined(&self) -> [Set; 64] {
+        let mut words = [0; 64];
+        for role in self.effective.keys() {
+            words[*role as usize] = one(*role);
+        }
+        while join_once(&self.edges, &mut words) {}
+        words
+    }
+
     /// The drawn graph after the edit of kinds 1 to 7.
     fn edit(&self, record: &Record) -> Edited {
         let mut edited = Edited {
@@ -441,14 +492,80 @@ fn seat_with_pair(seats: &Seats, effective: &RoleSets, pairs: &BTreeSet<(u8, u8)
     found.map(|(seat, _)| *seat)
 }
 
+fn seat_has(seats: &Seats, seat: u8, role: u8) -> bool {
+    seats.get(&seat).is_some_and(|roles| roles.contains(&role))
+}
+
+/// Takes the role from the seat; a seat without roles has no entry.
+fn take_from_seat(seats: &mut Seats, seat: u8, role: u8) {
+    let roles = seats.entry(seat).or_default();
+    roles.remove(&role);
+    if roles.is_empty() {
+        seats.remove(&seat);
+    }
+}
+
+fn set_of(roles: &BTreeSet<u8>) -> Set {
+    roles.iter().fold(0, |set, role| set | one(*role))
+}
+
+fn set_of_seat(seats: &Seats, seat: u8) -> Set {
+    seats.get(&seat).map_or(0, set_of)
+}
+
+fn sets_of_seats(seats: &Seats) -> [Set; 64] {
+    let mut words = [0; 64];
+    for (seat, roles) in seats {
+        words[*seat as usize] = set_of(roles);
+    }
+    words
+}
+
+/// What the roles reach together, by the graph's words.
+fn reached_by(roles: &BTreeSet<u8>, reached: &[Set; 64]) -> Set {
+    roles
+        .iter()
+        .fold(0, |set, role| set | reached[*role as usize])
+}
+
+/// Under each lower number, the higher ones that are paired with it.
+fn words_of_pairs(pairs: &BTreeSet<(u8, u8)>) -> [Set; 64] {
+    let mut words = [0; 64];
+    for (lower, higher) in pairs {
+        words[*lower as usize] |= one(*higher);
+    }
+    words
+}
+
+/// The higher numbers that are paired with this lower one.
+fn paired_with(pairs: &BTreeSet<(u8, u8)>, lower: u8) -> Set {
+    let from_here = pairs.range((lower, 0)..=(lower, u8::MAX));
+    from_here.fold(0, |set, pair| set | one(pair.1))
+}
+
 // ---- the keeper ----
 
-/// Graph, conflicts (lower privilege first) and the seats that have roles.
+/// How a pair breaks its exclusion.
+#[derive(Clone, Copy, Debug, PartialEq, Eq)]
+pub enum Clash {
+    /// A path joins the two roles.
+    Joined,
+    /// One active role of a seat reaches both.
+    ByOneMember,
+    /// Two active roles of a seat reach one each.
+    ByTwoMembers,
+}
+
+/// The saved state is the graph, the conflicts (lower privilege first) and the
+/// seats that have roles; beside it stand the exclusions (lower role first)
+/// and the seats that have active roles.
 #[derive(Clone, PartialEq)]
 pub struct Reference {
     graph: Graph,
     conflicts: BTreeSet<(u8, u8)>,
     seats: Seats,
+    exclusions: BTreeSet<(u8, u8)>,
+    active: Seats,
 }
 
 impl Reference {
@@ -457,24 +574,55 @@ impl Reference {
             graph: Graph::fresh(),
             conflicts: BTreeSet::new(),
             seats: Seats::new(),
+            exclusions: BTreeSet::new(),
+            active: Seats::new(),
         }
     }
 
     /// Takes one record. A refused call changes nothing.
     pub fn call(&mut self, record: &[u8]) -> Answer {
-        let Some(record) = decode(record) else {
-            return Answer {
-                number: 1,
-                place: 0,
-            };
-        };
-        match self.take(&record) {
-            Ok(place) => Answer { number: 0, place },
+        match self.judge(record) {
+            Ok((next, place)) => {
+                *self = next;
+                Answer { number: 0, place }
+            }
             Err(answer) => answer,
         }
     }
 
-    /// The place of the accepted call, or the refusal.
+    /// The state after the record and the place of its acceptance, or the
+    /// refusal.
+    fn judge(&self, record: &[u8]) -> Result<(Reference, u8), Answer> {
+        let (next, place) = self.before_35(record)?;
+        refuse_at(35, next.first_clash().map(|(lower, _)| lower))?;
+        Ok((next, place))
+    }
+
+    /// The same before 35 is judged, with the switch-offs made.
+    fn before_35(&self, record: &[u8]) -> Result<(Reference, u8), Answer> {
+        let malformed = Answer {
+            number: 1,
+            place: 0,
+        };
+        let record = decode(record).ok_or(malformed)?;
+        let mut next = self.clone();
+        let place = next.take(&record)?;
+        next.switch_off();
+        Ok((next, place))
+    }
+
+    /// How the pair clashes for which 35 refuses the record, and whether the
+    /// call would switch an active role off; nothing where 35 isn't the answer.
+    pub fn clash_of(&self, record: &[u8]) -> Option<(Clash, bool)> {
+        let (next, _) = self.before_35(record).ok()?;
+        let (_, clash) = next.first_clash()?;
+        let kept = next.active();
+        let mut seats = self.active().into_iter().zip(kept);
+        Some((clash, seats.any(|(before, after)| before & !after != 0)))
+    }
+
+    /// The place of the accepted call, or the refusal. A refusal may leave
+    /// changes behind; 35 isn't judged.
     fn take(&mut self, record: &Record) -> Result<u8, Answer> {
         record.refuse_input()?;
         self.refuse_state(record)?;
@@ -483,8 +631,11 @@ impl Reference {
             8 => self.declare(lower_first(record.a, record.b))?,
             9 => self.lift(lower_first(record.a, record.b)),
             10 => self.assign(record.a, record.b)?,
-            11 => self.unassign(record.a, record.b),
-            _ => return Ok(u8::from(self.may_use(record.a, record.b))),
+            11 => take_from_seat(&mut self.seats, record.a, record.b),
+            12 => return Ok(u8::from(self.may_use(record.a, record.b))),
+            13 => self.exclude(lower_first(record.a, record.b)),
+            14 => self.activate(record.a, record.b)?,
+            _ => take_from_seat(&mut self.active, record.a, record.b),
         }
         Ok(0)
     }
@@ -516,7 +667,9 @@ impl Reference {
             4 => has(self.effective(a), b),
             6 => self.graph.below(a, b),
             8 => self.conflicts.contains(&lower_first(a, b)),
-            10 => self.seat_has_role(a, b),
+            10 => seat_has(&self.seats, a, b),
+            13 => self.exclusions.contains(&lower_first(a, b)),
+            14 => seat_has(&self.active, a, b),
             _ => false,
         }
     }
@@ -527,7 +680,8 @@ impl Reference {
             5 => !has(self.effective(a), b),
             7 => !self.graph.edges.contains(&(a, b)),
             9 => !self.conflicts.contains(&lower_first(a, b)),
-            11 => !self.seat_has_role(a, b),
+            11 => !seat_has(&self.seats, a, b),
+            15 => !seat_has(&self.active, a, b),
             _ => false,
         }
     }
@@ -571,7 +725,15 @@ impl Reference {
         let effective = self.graph.edit(record).close();
         self.refuse_closed(record, &effective)?;
         self.graph = Graph::redraw(effective);
+        if record.kind == 3 {
+            self.drop_exclusions_of(record.a);
+        }
         Ok(())
+    }
+
+    fn drop_exclusions_of(&mut self, role: u8) {
+        self.exclusions
+            .retain(|pair| pair.0 != role && pair.1 != role);
     }
 
     fn refuse_closed(&self, record: &Record, effective: &RoleSets) -> Result<(), Answer> {
@@ -584,7 +746,7 @@ impl Reference {
         refuse_at(30, seat_with_pair(&self.seats, effective, &self.conflicts))
     }
 
-    // Kinds 8 to 12.
+    // Kinds 8 to 10 and 12.
 
     fn declare(&mut self, pair: (u8, u8)) -> Result<(), Answer> {
         let offered = BTreeSet::from([pair]);
@@ -612,14 +774,6 @@ impl Reference {
         Ok(())
     }
 
-    fn unassign(&mut self, seat: u8, role: u8) {
-        let roles = self.seats.entry(seat).or_default();
-        roles.remove(&role);
-        if roles.is_empty() {
-            self.seats.remove(&seat);
-        }
-    }
-
     fn may_use(&self, seat: u8, privilege: u8) -> bool {
         let Some(roles) = self.seats.get(&seat) else {
             return false;
@@ -627,27 +781,95 @@ impl Reference {
         has(union_of(roles, &self.graph.effective), privilege)
     }
 
-    fn seat_has_role(&self, seat: u8, role: u8) -> bool {
-        self.seats
-            .get(&seat)
-            .is_some_and(|roles| roles.contains(&role))
+    // Kinds 13 and 14, with refusal 34.
+
+    fn exclude(&mut self, pair: (u8, u8)) {
+        self.exclusions.insert(pair);
     }
+
+    fn activate(&mut self, seat: u8, role: u8) -> Result<(), Answer> {
+        let reached = self.reached_by_assigned(seat, &self.graph.reached());
+        refuse_at(34, (!has(reached, role)).then_some(seat))?;
+        self.active.entry(seat).or_default().insert(role);
+        Ok(())
+    }
+
+    /// The roles that some role assigned to the seat reaches.
+    fn reached_by_assigned(&self, seat: u8, reached: &[Set; 64]) -> Set {
+        let assigned = self.seats.get(&seat);
+        assigned.map_or(0, |roles| reached_by(roles, reached))
+    }
+
+    // What follows a call: switching off, and 35.
+
+    /// Takes out the active roles that no assigned role reaches.
+    fn switch_off(&mut self) {
+        if self.active.is_empty() {
+            return;
+        }
+        let reached = self.graph.reached();
+        let mut active = std::mem::take(&mut self.active);
+        for (seat, roles) in &mut active {
+            let kept = self.reached_by_assigned(*seat, &reached);
+            roles.retain(|role| has(kept, *role));
+        }
+        active.retain(|_, roles| !roles.is_empty());
+        self.active = active;
+    }
+
+    /// The lower role of the lowest pair that breaks its exclusion, and how.
+    /// Pairs are kept ascending by lower role, then higher.
+    fn first_clash(&self) -> Option<(u8, Clash)> {
+        if self.exclusions.is_empty() {
+            return None;
+        }
+        let (joined, reached) = (self.graph.joined(), self.graph.reached());
+        let mut pairs = self.exclusions.iter();
+        pairs.find_map(|pair| {
+            let clash = self.clash_of_pair(*pair, &joined, &reached)?;
+            Some((pair.0, clash))
+        })
+    }
+
+    fn clash_of_pair(
+        &self,
+        pair: (u8, u8),
+        joined: &[Set; 64],
+        reached: &[Set; 64],
+    ) -> Option<Clash> {
+        let path = |junior: u8, senior: u8| has(joined[senior as usize], junior);
+        let by_one = |role: &u8| holds_pair(reached[*role as usize], pair);
+        let mut active = self.active.values();
+        if path(pair.0, pair.1) || path(pair.1, pair.0) {
+            return Some(Clash::Joined);
+        }
+        let roles = active.find(|roles| holds_pair(reached_by(roles, reached), pair))?;
+        Some(match roles.iter().any(by_one) {
+            true => Clash::ByOneMember,
+            false => Clash::ByTwoMembers,
+        })
+    }
+
+    // The asks that are no records.
 
     /// What kind 12 answers when it is given next. The state stays.
     pub fn ask(&self, seat: u8, privilege: u8) -> Answer {
-        let record = Record {
-            kind: 12,
-            a: seat,
-            b: privilege,
-            sets: [0; 3],
+        asked(seat, privilege, || self.may_use(seat, privilege))
+    }
+
+    /// Whether the seat's active set reaches a role with the privilege.
+    pub fn question(&self, seat: u8, privilege: u8) -> Answer {
+        asked(seat, privilege, || self.active_set_has(seat, privilege))
+    }
+
+    fn active_set_has(&self, seat: u8, privilege: u8) -> bool {
+        let Some(active) = self.active.get(&seat) else {
+            return false;
         };
-        match record.refuse_input() {
-            Ok(()) => Answer {
-                number: 0,
-                place: u8::from(self.may_use(seat, privilege)),
-            },
-            Err(answer) => answer,
-        }
+        let reaches = |member: u8, role: u8| member == role || self.graph.below(role, member);
+        let reached = |role: u8| active.iter().any(|member| reaches(*member, role));
+        let mut roles = self.graph.effective.iter();
+        roles.any(|(role, set)| has(*set, privilege) && reached(*role))
     }
 
     // The state in view.
@@ -693,20 +915,22 @@ impl Reference {
 
     /// Under each lower privilege, the higher ones that conflict with it.
     pub fn conflicts(&self) -> [Set; 64] {
-        let mut words = [0; 64];
-        for (lower, higher) in &self.conflicts {
-            words[*lower as usize] |= one(*higher);
-        }
-        words
+        words_of_pairs(&self.conflicts)
     }
 
     /// The roles of each seat.
     pub fn seats(&self) -> [Set; 64] {
-        let mut words = [0; 64];
-        for (seat, roles) in &self.seats {
-            words[*seat as usize] = roles.iter().fold(0, |set, role| set | one(*role));
-        }
-        words
+        sets_of_seats(&self.seats)
+    }
+
+    /// Under each lower role, the higher ones that it excludes.
+    pub fn exclusions(&self) -> [Set; 64] {
+        words_of_pairs(&self.exclusions)
+    }
+
+    /// The active roles of each seat.
+    pub fn active(&self) -> [Set; 64] {
+        sets_of_seats(&self.active)
     }
 
     /// The immediate juniors of one role.
@@ -719,19 +943,31 @@ impl Reference {
 
     /// The higher privileges that conflict with this lower one.
     pub fn conflicts_of(&self, lower: u8) -> Set {
-        let from_here = self.conflicts.range((lower, 0)..=(lower, u8::MAX));
-        from_here.fold(0, |set, pair| set | one(pair.1))
+        paired_with(&self.conflicts, lower)
     }
 
     /// The roles of one seat.
     pub fn roles_of_seat(&self, seat: u8) -> Set {
-        let roles = self.seats.get(&seat);
-        roles.map_or(0, |roles| {
-            roles.iter().fold(0, |set, role| set | one(*role))
-        })
+        set_of_seat(&self.seats, seat)
+    }
+
+    /// The higher roles that this lower one excludes.
+    pub fn exclusions_of(&self, lower: u8) -> Set {
+        paired_with(&self.exclusions, lower)
+    }
+
+    /// The active roles of one seat.
+    pub fn active_of_seat(&self, seat: u8) -> Set {
+        set_of_seat(&self.active, seat)
     }
 
     // Images.
+
+    /// Whether graph, conflicts and seats are the same; exclusions and active
+    /// roles aren't saved and are left out.
+    pub fn is_saved_alike(&self, other: &Reference) -> bool {
+        self.graph == other.graph && self.conflicts == other.conflicts && self.seats == other.seats
+    }
 
     /// The saved image.
     pub fn save(&self) -> Vec<u8> {
@@ -769,7 +1005,8 @@ impl Reference {
         Ok(image.len())
     }
 
-    /// Loads the image that ends the bytes, or gives 6, 7 or 8 and stays.
+    /// Loads the image that ends the bytes, which clears exclusions and active
+    /// roles, or gives 6, 7 or 8 and stays whole.
     pub fn load(&mut self, bytes: &[u8]) -> Result<(), u8> {
         let image = Image::cut(bytes).ok_or(6)?;
         if !image.entries_fit() {
@@ -932,6 +1169,7 @@ impl Loaded {
             graph: Graph::redraw(self.effective),
             conflicts: self.conflicts,
             seats: self.seats,
+            ..Reference::fresh()
         }
     }
 }

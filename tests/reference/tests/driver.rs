@@ -1,5 +1,8 @@
 //! The driver agrees with the reference itself and catches broken keepers.
 
+mod layered;
+
+use layered::Layered;
 use role_reference::compare::{accepted_share, run, Counts, Failure, Keeper};
 use role_reference::generate::{list, shrink, Mix, Step};
 use role_reference::random::{printed_seed, Random};
@@ -20,6 +23,8 @@ fn reference_agrees_with_itself() {
 fn few_numbers_give_mostly_accepted_calls() {
     assert!(accepted_share(7, Mix::Few, 50) > 0.5);
     assert!(accepted_share(7, Mix::Layered, 20) > 0.5);
+    assert!(accepted_share(7, Mix::Sitting, 20) > 0.5);
+    assert!(accepted_share(7, Mix::Scenes, 20) > 0.5);
 }
 
 #[test]
@@ -45,6 +50,34 @@ fn a_run_should_see_both_refusals_of_a_withdrawal() {
     let missing = Counts::none().missing();
     for unseen in ["refusal 31", "kind 5 refused 23", "kind 5 refused 31"] {
         assert!(missing.iter().any(|text| text == unseen), "{unseen}");
+    }
+}
+
+#[test]
+fn a_run_should_see_all_of_item_3() {
+    let missing = Counts::none().missing();
+    let refused = [1, 3, 4, 5, 6, 7, 13, 14].map(|kind| format!("kind {kind} refused 35"));
+    let switching = [3, 7, 11].map(|kind| format!("kind {kind} switching off"));
+    let accepted = [13, 14, 15].map(|kind| format!("kind {kind} accepted"));
+    let others = [
+        "refusal 34",
+        "refusal 35",
+        "kind 14 refused 34",
+        "kind 13 refused 35 joined",
+        "kind 13 refused 35 by one member",
+        "kind 13 refused 35 by two members",
+        "a question's yes",
+        "a question's no",
+        "a load that clears",
+        "a refused load that keeps",
+    ];
+    let others = others.map(String::from);
+    let unseen = [&refused[..], &switching, &accepted, &others].concat();
+    for text in unseen {
+        assert!(missing.contains(&text), "{text}");
+    }
+    for text in ["kind 2 refused 35", "kind 14 refused 35 joined"] {
+        assert!(!missing.contains(&text.to_string()), "{text}");
     }
 }
 
@@ -174,6 +207,18 @@ impl<const FAULT: u8> Keeper for Broken<FAULT> {
         }
     }
 
+    fn pairs(&self, role: u8) -> u64 {
+        Keeper::pairs(&self.inner, role)
+    }
+
+    fn active(&self, seat: u8) -> u64 {
+        Keeper::active(&self.inner, seat)
+    }
+
+    fn question(&self, seat: u8, privilege: u8) -> (u8, u8) {
+        Keeper::question(&self.inner, seat, privilege)
+    }
+
     fn save_into(&self, buffer: &mut [u8]) -> (u8, usize) {
         let answer = Keeper::save_into(&self.inner, buffer);
         if FAULT == WRITES_BEHIND && answer.0 == 0 && answer.1 < buffer.len() {
@@ -185,7 +230,11 @@ impl<const FAULT: u8> Keeper for Broken<FAULT> {
 
 /// The driver's shrunk list and the words about the difference.
 fn caught<const FAULT: u8>() -> (Vec<Step>, String) {
-    let failure = run::<Broken<FAULT>>(printed_seed(), CALLS, IMAGES);
+    difference::<Broken<FAULT>>()
+}
+
+fn difference<K: Keeper>() -> (Vec<Step>, String) {
+    let failure = run::<K>(printed_seed(), CALLS, IMAGES);
     let failure = failure.expect_err("the fault is found");
     println!("{failure}");
     match failure {
@@ -253,4 +302,63 @@ fn catches_a_panic() {
     let (steps, text) = caught::<PANICS_AT_30>();
     assert!(steps.len() <= 10, "{steps:?}");
     assert_eq!(text, "panic");
+}
+
+// ---- keepers broken in what isn't saved ----
+
+/// Such a keeper is caught in a list of at most this many steps, at a
+/// difference with these words.
+fn caught_sitting<const FAULT: u8>(most: usize, words: &str) {
+    let (steps, text) = difference::<Layered<FAULT>>();
+    assert!(steps.len() <= most, "{steps:?}");
+    assert!(text.contains(words), "{text}");
+}
+
+#[test]
+fn layers_agree_with_the_whole() {
+    let counts = run::<Layered<{ layered::NO_FAULT }>>(printed_seed(), CALLS, IMAGES);
+    counts.unwrap_or_else(|failure| panic!("{failure}"));
+}
+
+/// A role that a call puts out of a seat's reach lies below the one role that
+/// the call lets others newly reach, or goes. So a pair that only the roles
+/// about to be switched off would break was joined by a path before the call,
+/// and no state has such a pair.
+#[test]
+fn judging_before_switching_off_makes_no_difference() {
+    let counts = run::<Layered<{ layered::JUDGES_BEFORE_SWITCHING }>>(7, CALLS, IMAGES);
+    counts.unwrap_or_else(|failure| panic!("{failure}"));
+}
+
+#[test]
+fn catches_pairs_judged_wrongly() {
+    caught_sitting::<{ layered::SEES_EDGES_ALONE }>(8, "reference (35, ");
+    caught_sitting::<{ layered::SEES_NO_PATH }>(6, "reference (35, ");
+    caught_sitting::<{ layered::SEES_ONE_MEMBER }>(10, "reference (35, ");
+    caught_sitting::<{ layered::PLACES_THE_HIGHER }>(10, "keeper (35, ");
+    caught_sitting::<{ layered::TAKES_THE_LAST_PAIR }>(12, "keeper (35, ");
+    caught_sitting::<{ layered::SEES_ONE_ORDER }>(6, "reference (22, ");
+}
+
+#[test]
+fn catches_pairs_and_active_roles_that_stay_or_go_wrongly() {
+    caught_sitting::<{ layered::KEEPS_PAIRS_OF_REMOVED }>(6, "excluded by role");
+    caught_sitting::<{ layered::NEVER_SWITCHES_OFF }>(8, "active roles of seat");
+    caught_sitting::<{ layered::SWITCHES_WHEN_REFUSED }>(14, "active roles of seat");
+    caught_sitting::<{ layered::LOAD_KEEPS_PAIRS }>(6, "excluded by role");
+    caught_sitting::<{ layered::LOAD_KEEPS_ACTIVE }>(6, "active roles of seat");
+    caught_sitting::<{ layered::REFUSED_LOAD_CLEARS }>(6, "reference 0x");
+}
+
+#[test]
+fn catches_activations_misread() {
+    caught_sitting::<{ layered::JUNIORS_ARE_MEMBERS }>(8, "active roles of seat");
+    caught_sitting::<{ layered::ACTIVATES_ASSIGNED_ALONE }>(8, "keeper (34, ");
+    caught_sitting::<{ layered::ACTIVE_ROLE_STAYS }>(8, "keeper (24, ");
+}
+
+#[test]
+fn catches_questions_misread() {
+    caught_sitting::<{ layered::QUESTIONS_THE_ASSIGNED }>(3, "question of seat");
+    caught_sitting::<{ layered::ASKS_THE_ACTIVE }>(4, "reference (0, 1)");
 }

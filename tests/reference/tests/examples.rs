@@ -1,74 +1,12 @@
-//! Document 01's examples and each refusal of documents 01 and 02.
+//! Document 01's examples and each refusal of document 01 and of item 1 of
+//! document 02; what item 3's kinds share with the others stands here too.
+
+mod support;
 
 use role_reference::generate::{largest_image, record, short};
 use role_reference::random::Random;
-use role_reference::reference::{Answer, Reference, Set};
-
-fn set(members: &[u8]) -> Set {
-    members.iter().fold(0, |set, member| set | 1 << member)
-}
-
-/// The set of the numbers from `low` to `high`, with others.
-fn run_of(low: u8, high: u8, others: &[u8]) -> Set {
-    (low..=high).fold(set(others), |set, member| set | 1 << member)
-}
-
-const ACCEPTED: Answer = Answer {
-    number: 0,
-    place: 0,
-};
-const YES: Answer = Answer {
-    number: 0,
-    place: 1,
-};
-
-fn refused(number: u8, place: u8) -> Answer {
-    Answer { number, place }
-}
-
-fn by_privileges(role: u8, members: &[u8]) -> Vec<u8> {
-    record(2, role, 0, [set(members), 0, 0])
-}
-
-fn by_place(role: u8, direct: &[u8], juniors: &[u8], seniors: &[u8]) -> Vec<u8> {
-    record(1, role, 0, [set(direct), set(juniors), set(seniors)])
-}
-
-fn after(records: &[Vec<u8>]) -> Reference {
-    let mut keeper = Reference::fresh();
-    accept_all(&mut keeper, records);
-    keeper
-}
-
-fn accept_all(keeper: &mut Reference, records: &[Vec<u8>]) {
-    for record in records {
-        assert_eq!(keeper.call(record), ACCEPTED, "{record:?}");
-    }
-}
-
-/// The call is refused so, and the state stays.
-fn refuses(keeper: &mut Reference, record: &[u8], number: u8, place: u8) {
-    let before = keeper.clone();
-    assert_eq!(keeper.call(record), refused(number, place), "{record:?}");
-    assert!(*keeper == before);
-}
-
-/// The ordinary roles of example A with their effective sets.
-const TABLE_ONE: [(u8, &[u8]); 8] = [
-    (2, &[1]),
-    (3, &[2]),
-    (4, &[1, 3, 4]),
-    (5, &[1, 2, 4, 5]),
-    (6, &[1, 2, 5, 6]),
-    (7, &[2, 7, 8]),
-    (8, &[1, 2, 3, 4, 5, 6, 7, 8, 9, 10]),
-    (9, &[1, 2, 3, 4, 5, 6, 7, 8, 11]),
-];
-
-/// Example A, by kind 2.
-fn table_one() -> Reference {
-    after(&TABLE_ONE.map(|(role, members)| by_privileges(role, members)))
-}
+use role_reference::reference::{Reference, Set};
+use support::*;
 
 fn after_example_3() -> Reference {
     let mut keeper = table_one();
@@ -253,6 +191,8 @@ fn fresh_graph() {
     assert_eq!(keeper.sets(), [0; 64]);
     assert_eq!(keeper.conflicts(), [0; 64]);
     assert_eq!(keeper.seats(), [0; 64]);
+    assert_eq!(keeper.exclusions(), [0; 64]);
+    assert_eq!(keeper.active(), [0; 64]);
 }
 
 #[test]
@@ -366,7 +306,7 @@ fn ask_answers_yes_or_no() {
 fn refusal_1() {
     let mut keeper = table_one();
     refuses(&mut keeper, &[0; 32], 1, 0);
-    refuses(&mut keeper, &short(13, 2, 3), 1, 0);
+    refuses(&mut keeper, &short(16, 2, 3), 1, 0);
     refuses(&mut keeper, &short(255, 200, 200), 1, 0);
     refuses(&mut keeper, &short(3, 2, 2), 1, 0);
     refuses(&mut keeper, &short(3, 2, 64), 1, 0);
@@ -374,7 +314,7 @@ fn refusal_1() {
     refuses(&mut keeper, &record(2, 10, 1, [1, 0, 0]), 1, 0);
     refuses(&mut keeper, &record(2, 10, 0, [1, 4, 0]), 1, 0);
     refuses(&mut keeper, &record(2, 10, 0, [1, 0, 4]), 1, 0);
-    for kind in 3..=12 {
+    for kind in 3..=15 {
         for place in 0..3 {
             let mut sets = [0; 3];
             sets[place] = 1 << 63;
@@ -385,7 +325,7 @@ fn refusal_1() {
 
 #[test]
 fn refusal_1_for_each_unused_byte() {
-    for kind in 1..=12 {
+    for kind in 1..=15 {
         for place in 3..8 {
             let mut bytes = short(kind, 200, 0);
             bytes[place] = 1;
@@ -400,7 +340,7 @@ fn refusal_2() {
     refuses(&mut keeper, &by_place(64, &[1], &[0], &[]), 2, 64);
     refuses(&mut keeper, &by_privileges(255, &[1]), 2, 255);
     refuses(&mut keeper, &short(3, 64, 1), 2, 64);
-    for kind in 4..=12 {
+    for kind in 4..=15 {
         refuses(&mut keeper, &short(kind, 64, 65), 2, 64);
         refuses(&mut keeper, &short(kind, 0, 65), 2, 65);
         refuses(&mut keeper, &short(kind, 70, 70), 2, 70);
@@ -418,12 +358,12 @@ fn refusal_3() {
         refuses(&mut keeper, &short(kind, 1, 0), 3, 1);
         refuses(&mut keeper, &short(kind, 0, 0), 3, 0);
     }
-    for kind in [6, 7] {
+    for kind in [6, 7, 13] {
         refuses(&mut keeper, &short(kind, 1, 0), 3, 1);
         refuses(&mut keeper, &short(kind, 2, 0), 3, 0);
         refuses(&mut keeper, &short(kind, 1, 1), 3, 1);
     }
-    for kind in [10, 11] {
+    for kind in [10, 11, 14, 15] {
         refuses(&mut keeper, &short(kind, 5, 1), 3, 1);
         refuses(&mut keeper, &short(kind, 5, 0), 3, 0);
     }
@@ -436,7 +376,7 @@ fn refusals_4_and_5() {
         refuses(&mut keeper, &short(kind, 1, 1), 4, 1);
         refuses(&mut keeper, &short(kind, 63, 63), 4, 63);
     }
-    for kind in [6, 7] {
+    for kind in [6, 7, 13] {
         refuses(&mut keeper, &short(kind, 2, 2), 5, 2);
         refuses(&mut keeper, &short(kind, 60, 60), 5, 60);
     }
@@ -466,11 +406,11 @@ fn refusal_21() {
     for kind in [3, 4, 5] {
         refuses(&mut keeper, &short(kind, 33, 1), 21, 33);
     }
-    for kind in [6, 7] {
+    for kind in [6, 7, 13] {
         refuses(&mut keeper, &short(kind, 33, 34), 21, 33);
         refuses(&mut keeper, &short(kind, 2, 34), 21, 34);
     }
-    for kind in [10, 11] {
+    for kind in [10, 11, 14, 15] {
         refuses(&mut keeper, &short(kind, 2, 34), 21, 34);
     }
 }
