@@ -1,6 +1,6 @@
 //! The proved keeper and importer, by their Rust wrapper, as the drivers of `tests/reference` compare them.
 
-use keeper::{import_into, Answer, Keeper, Refusal};
+use keeper::{import_into, Answer, Keeper, Refusal, NUMBERS};
 use role_reference::compare::Keeper as Compared;
 use role_reference::compare_sheets::Imported;
 use role_reference::sheets::Refused;
@@ -14,6 +14,14 @@ pub fn printed(answer: Result<Answer, Refusal>) -> (u8, u8) {
     match answer {
         Ok(Answer::Yes) => (0, 1),
         Ok(Answer::Accepted | Answer::No) => (0, 0),
+        Err(refusal) => refusal.parts(),
+    }
+}
+
+/// A refusal's number or 0, and 1 for yes.
+fn asked(answer: Result<bool, Refusal>) -> (u8, u8) {
+    match answer {
+        Ok(yes) => (0, yes.into()),
         Err(refusal) => refusal.parts(),
     }
 }
@@ -65,10 +73,21 @@ impl Compared for Kept {
     }
 
     fn ask(&self, seat: u8, privilege: u8) -> (u8, u8) {
-        match self.0.ask(seat, privilege) {
-            Ok(yes) => (0, yes.into()),
-            Err(refusal) => refusal.parts(),
-        }
+        asked(self.0.ask(seat, privilege))
+    }
+
+    fn pairs(&self, role: u8) -> u64 {
+        let excluded = |other: &u8| self.0.is_excluded(role, *other);
+        let higher = (role + 1..NUMBERS).filter(excluded);
+        higher.fold(0, |pairs, other| pairs | 1 << other)
+    }
+
+    fn active(&self, seat: u8) -> u64 {
+        self.0.active_roles(seat).0
+    }
+
+    fn question(&self, seat: u8, privilege: u8) -> (u8, u8) {
+        asked(self.0.ask_active(seat, privilege))
     }
 
     fn save_into(&self, buffer: &mut [u8]) -> (u8, usize) {

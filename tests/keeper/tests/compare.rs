@@ -3,14 +3,15 @@
 use keeper::{image_length, Keeper};
 use keeper_tests::Kept;
 use role_reference::compare::{run, Counts};
-use role_reference::generate::{image_list, random_state, Step};
+use role_reference::generate::{image_list, list, random_state, Mix, Step};
 use role_reference::random::{printed_seed, Random};
 use role_reference::reference::{has, Reference};
 
 const CALLS: usize = 200_000;
 const IMAGES: usize = 50_000;
 
-/// A run that misses a kind, a refusal, or a refusal that a kind can meet fails.
+/// A run that misses a kind, a refusal, a refusal that a kind can meet, a way in which 35 can arise in it, or a switch-off
+/// that a kind can cause fails.
 #[test]
 fn the_keeper_agrees_with_the_reference() {
     let counts = run::<Kept>(printed_seed(), CALLS, IMAGES);
@@ -53,13 +54,22 @@ fn same_order(keeper: &Keeper, reference: &Reference) {
     }
 }
 
+/// Whether two numbers are paired, in either order, by the words that have the higher ones under the lower.
+fn paired(words: &[u64; 64], first: u8, second: u8) -> bool {
+    let (lower, higher) = (first.min(second), first.max(second));
+    lower < higher && higher < 64 && has(words[lower as usize], higher)
+}
+
 fn same_pairs(keeper: &Keeper, reference: &Reference) {
+    let (conflicts, exclusions) = (reference.conflicts(), reference.exclusions());
     for first in 0..=70u8 {
         for second in 0..=70u8 {
-            let (lower, higher) = (first.min(second), first.max(second));
-            let known = lower < higher && higher < 64;
-            let expected = known && has(reference.conflicts_of(lower), higher);
-            assert_eq!(keeper.is_declared(first, second), expected);
+            let (declared, excluded) = (
+                paired(&conflicts, first, second),
+                paired(&exclusions, first, second),
+            );
+            assert_eq!(keeper.is_declared(first, second), declared);
+            assert_eq!(keeper.is_excluded(first, second), excluded);
         }
     }
 }
@@ -69,6 +79,10 @@ fn same_seats(keeper: &Keeper, reference: &Reference) {
         let roles = (0..64).filter(|role| has(reference.roles_of_seat(seat), *role));
         let held = roles.fold(0, |held, role| held | reference.effective(role));
         assert_eq!(keeper.seat_holds(seat).0, held);
+        assert_eq!(keeper.active_roles(seat).0, reference.active_of_seat(seat));
+    }
+    for seat in 64..=70 {
+        assert!(keeper.active_roles(seat).is_empty());
     }
 }
 
@@ -83,6 +97,29 @@ fn the_keeper_shows_what_the_reference_does() {
         same_pairs(&keeper, &reference);
         same_seats(&keeper, &reference);
     }
+}
+
+/// With pairs and active roles, which no image holds, so that the calls themselves are given to both.
+#[test]
+fn the_keeper_shows_pairs_and_active_roles() {
+    let mut random = Random::new(printed_seed());
+    let mut sittings = 0;
+    for _ in 0..40 {
+        let (mut keeper, mut reference) = (Keeper::fresh(), Reference::fresh());
+        for step in list(&mut random, Mix::Scenes) {
+            let Step::Call(record) = step else { continue };
+            let answer = reference.call(&record);
+            let expected = (answer.number, answer.place);
+            assert_eq!(keeper_tests::printed(keeper.record(&record)), expected);
+        }
+        same_pairs(&keeper, &reference);
+        same_seats(&keeper, &reference);
+        sittings += usize::from(reference.exclusions() != [0; 64] && reference.active() != [0; 64]);
+    }
+    assert!(
+        sittings > 10,
+        "{sittings} lists end with pairs and active roles"
+    );
 }
 
 /// The length measured is that of the image that loads, and the refusals are loading's.
