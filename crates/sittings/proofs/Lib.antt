@@ -6,3 +6,4 @@ pub mod WithoutRole
 pub mod CallInvariant
 pub mod RecordInvariant
 pub mod History
+pub mod Projection
