@@ -7,3 +7,5 @@ pub mod CallInvariant
 pub mod RecordInvariant
 pub mod History
 pub mod Projection
+pub mod Question
+pub mod ListTheorem
