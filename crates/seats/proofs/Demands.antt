@@ -23,8 +23,6 @@ use Rattle.seats.specs.Records.{well-formed, decode, step}
 use Rattle.seats.specs.Images.{least-image, image, far-at, restored, Loaded, loaded, not-loaded, load, image-verdict, load-over, settle-load, measure}
 use Rattle.seats.specs.Saving.{save}
 use Rattle.seats.specs.Lists.{end}
-use Rattle.seats.specs.Tape.{records, feed}
-use Rattle.seats.specs.Tape.{records}
 use Rattle.seats.specs.Promises.{StepPromise, LoadPromise}
 use Rattle.seats.specs.Demands.{read-outcome, refuses, OfLoad, contents-in, load-order, load-checks, Reached, ChangedBy, Closes, Says, DemandOne, DemandTwo, DemandThreeWithShorter, Demands}
 use Rattle.seats.specs.Invariants.{Invariant}
@@ -43,9 +41,7 @@ use Rattle.seats.proofs.WholeChecks.{declare-by-whole, assign-by-whole}
 use Rattle.seats.proofs.LoadRefusals.{load-refusals}
 use Rattle.seats.proofs.LoadVerdict.{load-checks-in-order, load-settles, read-judged, read-passed, measure-refuses, measure-loads}
 use Rattle.seats.proofs.ImageAlone.{load-alone}
-use Rattle.seats.proofs.OneOutcome.{one-outcome, one-image, one-measured, one-left, one-part}
-use Rattle.seats.proofs.TapeRecords.{answers-count}
-use Rattle.seats.proofs.PartOutcomes.{refused-part, uncounted-part, refused-part-iff, uncounted-part-iff, accepted-part, records-joined}
+use Rattle.seats.proofs.OneOutcome.{one-outcome, one-image, one-measured, one-left}
 use Rattle.seats.proofs.SaveOutcomes.{no-written, same-short, has-room, no-room, saves, front-loads, front-same}
 
 -- Two outcomes that are the same have the same answer and the same state.
@@ -84,8 +80,6 @@ demand-one = record {
   read-answered = λ l. one-image (image-verdict (load l));
   measure-answered = λ l. one-measured (measure l);
   save-answered = λ s buffer. one-left (save s buffer);
-  part-answered = λ s count part buffer. one-part (feed (read-state s) count part buffer);
-  tape-answered = λ s tape. (records-joined tape, answers-count s (records tape));
   call-refused = λ s t l a n p e r.
       let (x, y) = record-refused (read-state s) (read-outcome (a, t)) l e n p r in
       (x, record-refused-iff (read-state s) (read-outcome (a, t)) l e n p .0 r, y);
@@ -94,8 +88,6 @@ demand-one = record {
     | has-room _ q _ ↦ absurd (no-written (sym q ∙ r))
     | no-room _ q w ↦ (let (x, y) = same-short (sym q ∙ r) in (sym x, sym y, w))
   ];
-  part-refused = λ s count part buffer left f n p e. refused-part s count part buffer left f e n p;
-  part-uncounted = uncounted-part;
 }
 
 -- ---- what a keeper reaches
@@ -191,9 +183,6 @@ demand-two = record {
     | has-room _ q m ↦ (q, ap (take (length (image s))) m ∙ take-append-seam (image s) _, ap (drop (length (image s))) m ∙ drop-append-seam (image s) _)
     | no-room l _ _ ↦ absurd (omega arith)
   ];
-  part-refused-iff = λ s count part buffer left f n p e. refused-part-iff s count part buffer left f e n p;
-  part-uncounted-iff = uncounted-part-iff;
-  part-accepted = accepted-part;
   saved-loads = λ s h t buffer left before f n a r e w p.
       by-part (p ∙ front-loads (read-state s) buffer left (read-filled f) e n w (reached-keeps s r) (read-state h) before);
   loaded-saves = λ h s l buffer left a f n b p r e w.

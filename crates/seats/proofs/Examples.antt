@@ -3,7 +3,7 @@
 use mathlib.Core.Path.{_≡_, refl}
 use mathlib.Core.Bool.{false}
 use mathlib.Core.List.{List, [], _∷_, _++_}
-use Prim.Native.Nat.{ℕ, _+_, _-_, _*_, _^_}
+use Prim.Native.Nat.{ℕ, _+_, _*_}
 use lib.ListN.{length, take, replicate}
 use Rattle.sets.specs.Sets.{empty, single}
 use Rattle.graph.proofs.Examples.{set-of, graph-of, table-one, written-out}
@@ -13,7 +13,6 @@ use Rattle.seats.specs.Calls.{answered, refused}
 use Rattle.seats.specs.Records.{step}
 use Rattle.seats.specs.Images.{image, loaded, not-loaded, load, load-over}
 use Rattle.seats.specs.Saving.{save}
-use Rattle.seats.specs.Tape.{printed, fills, uncounted, feed}
 use Rattle.seats.specs.Computes.{computes}
 
 -- ---- what the examples are written with
@@ -181,34 +180,3 @@ unknown-kind = refl
 unused-set : step fresh (call 2 2 0 (single 1) empty (single 63)) ≡ (refused 1 0, fresh)
 unfolding computes spelled-out
 unused-set = refl
-
--- ---- tapes
--- `end 0 1`.
-empty-tape : printed [] ≡ 101 ∷ 110 ∷ 100 ∷ 32 ∷ 48 ∷ 32 ∷ 49 ∷ 10 ∷ []
-unfolding computes
-empty-tape = refl
-
--- A partial last record has its line: `1 1 0`, `2 1 0`, then `end 2 1`.
-partial-tape : printed (replicate 33 0) ≡ (49 ∷ 32 ∷ 49 ∷ 32 ∷ 48 ∷ 10 ∷ []) ++ ((50 ∷ 32 ∷ 49 ∷ 32 ∷ 48 ∷ 10 ∷ []) ++ (101 ∷ 110 ∷ 100 ∷ 32 ∷ 50 ∷ 32 ∷ 49 ∷ 10 ∷ []))
-unfolding computes
-partial-tape = refl
-
--- A part whose line is `1 1 0`, in a buffer of sevens that has one byte more.
-fed-behind : feed fresh 0 (0 ∷ []) (replicate 7 7) ≡ ((fills (written 6), 49 ∷ 32 ∷ 49 ∷ 32 ∷ 48 ∷ 10 ∷ 7 ∷ []), (1, fresh))
-unfolding computes
-fed-behind = refl
-
--- In one of its length.
-fed-exactly : feed fresh 0 (0 ∷ []) (replicate 6 7) ≡ ((fills (written 6), 49 ∷ 32 ∷ 49 ∷ 32 ∷ 48 ∷ 10 ∷ []), (1, fresh))
-unfolding computes
-fed-exactly = refl
-
--- In one with a byte fewer nothing is done.
-not-fed : feed fresh 0 (0 ∷ []) (replicate 5 7) ≡ ((fills (too-short 9 0), replicate 5 7), (0, fresh))
-unfolding computes
-not-fed = refl
-
--- Behind the last record that 64 bits count, nothing is done.
-not-counted : feed fresh (2 ^ 64 - 1) (0 ∷ []) (replicate 40 7) ≡ ((uncounted, replicate 40 7), (2 ^ 64 - 1, fresh))
-unfolding computes
-not-counted = refl

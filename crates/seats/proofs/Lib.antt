@@ -43,7 +43,6 @@ pub mod TapeRecords
 pub mod TapePlaces
 pub mod Readers
 pub mod ReaderCalls
-pub mod StateCells
 pub mod Lines
 pub mod Feeding
 -- ---- the three demands

@@ -16,7 +16,7 @@ use Rattle.seats.specs.Calls as calls
 use Rattle.seats.specs.Images.{measured, unmeasured}
 use Rattle.seats.specs.Images as images
 use Rattle.seats.specs.Tape.{PartAnswer, fills, uncounted}
-use Rattle.seats.specs.Demands.{One, read-outcome, read-left, read-part-left}
+use Rattle.seats.specs.Demands.{One, read-outcome, read-left}
 use Rattle.seats.specs.Reading.{read-answer, read-filled, read-image, read-measured, read-part}
 use Rattle.seats.specs.declared.State.{State}
 use Rattle.seats.specs.declared.Answer.{Answer}
@@ -29,7 +29,7 @@ use Rattle.seats.specs.declared.PartAnswer as part-enum
 use Rattle.seats.specs.declared.PartAnswer.the-variants as part-answers
 
 -- What is read as y is there, and whatever reads as y reads alike.
-one : {X Y : Type 0} (read : X → Y) (write : Y → X) → ((y : Y) → read (write y) ≡ y) → (y : Y) → One read (λ x. read x ≡ y)
+pub one : {X Y : Type 0} (read : X → Y) (write : Y → X) → ((y : Y) → read (write y) ≡ y) → (y : Y) → One read (λ x. read x ≡ y)
 one read write back y = record { some = write y; kept = back y; alike = λ x e. e ∙ sym (back y) }
 
 -- An answer, a state and what filling answers, as the code holds them.
@@ -84,19 +84,14 @@ pub one-image : (y : Verdict × seats.State) → One read-image (λ r. read-imag
 unfolding write-state sets-in
 one-image = one read-image (λ y. record { verdict = write-verdict (y .0); state = write-state (y .1) }) (λ y. ap (λ (v : Verdict). (v, y .1)) (verdict-written (y .0)))
 
-write-part : PartAnswer → part-enum.PartAnswer
+-- What feeding a part of a tape answers, as the code holds it.
+pub write-part : PartAnswer → part-enum.PartAnswer
 write-part (fills (written n)) = part-answers.Written n
 write-part (fills (too-short n p)) = part-answers.TooShort (record { number = n; place = p })
 write-part uncounted = part-answers.Uncounted
 
-part-written : (a : PartAnswer) → read-part (write-part a) ≡ a
+pub part-written : (a : PartAnswer) → read-part (write-part a) ≡ a
 unfolding read-part write-part
 part-written (fills (written n)) = refl
 part-written (fills (too-short n p)) = refl
 part-written uncounted = refl
-
-pub one-part : (y : (PartAnswer × List ℕ) × (ℕ × seats.State)) → One read-part-left (λ z. read-part-left z ≡ y)
-unfolding write-state sets-in
-one-part y =
-    one read-part-left (λ y. (record { answer = write-part (y .0 .0); count = y .1 .0; state = write-state (y .1 .1) }, y .0 .1))
-    (λ y. ap (λ (a : PartAnswer). ((a, y .0 .1), y .1)) (part-written (y .0 .0))) y

@@ -11,9 +11,8 @@ use lib.ListN.{length, take, drop, length-drop, drop-of-length-le}
 use lib.Seq.{take-all, take-nil, drop-drop}
 use borrow.Author.Tests.{leb-true, leb-false}
 use Rattle.lists.specs.Runs.{run}
-use Rattle.seats.specs.Seats.{State}
-use Rattle.seats.specs.Records.{record-length, step}
-use Rattle.seats.specs.Lists.{answers, end}
+use Rattle.seats.specs.Calls.{Answer}
+use Rattle.seats.specs.Records.{record-length}
 use Rattle.seats.specs.Tape.{records, line, lines, fed}
 use Rattle.seats.proofs.TapeRecords.{records-first, records-none}
 use Rattle.seats.specs.Places.{is-end, record-at, record-end, records-from}
@@ -69,17 +68,18 @@ module _ (tape : List ℕ) (at : ℕ) (h : at < length tape) where
       ∙ ap (λ (l : List ℕ). record-at tape at ∷ records l) (drop-drop record-length at tape ∙ sym (drop-min (at + record-length) tape))
 
   -- What is left comes to the line of the record there, and what comes after it.
-  pub fed-more : (s : State) (index : ℕ)
+  pub fed-more : {S : Type 0} (step : S → List ℕ → Answer × S) (s : S) (index : ℕ)
       → let (a, t) = step s (record-at tape at) in
-      fed s index (drop at tape) ≡ (line (index + 1) a ++ fed t (index + 1) (drop (record-end tape at) tape) .0, fed t (index + 1) (drop (record-end tape at) tape) .1)
-  unfolding fed answers end run lines
-  fed-more s index =
+      fed step s index (drop at tape) ≡ (line (index + 1) a ++ fed step t (index + 1) (drop (record-end tape at) tape) .0, fed step t (index + 1) (drop (record-end tape at) tape) .1)
+  unfolding fed run lines
+  fed-more step s index =
       let (a, t) = step s (record-at tape at) in
       let l = records (drop (record-end tape at) tape) in
+      let (b, u) = run step t l in
       let n : index + suc (length l) ≡ suc index + length l = omega arith in
-      ap (λ (l : List (List ℕ)). (lines (suc index) (answers s l), (index + length l, end s l))) records-more
-      ∙ ap (λ (n : ℕ). (line (suc index) a ++ lines (suc (suc index)) (answers t l), (n, end t l))) n
-      ∙ ap (λ (i : ℕ). (line i a ++ lines (suc i) (answers t l), (i + length l, end t l))) (sym (add-one index))
+      ap (λ (l : List (List ℕ)). (lines (suc index) (run step s l .0), (index + length l, run step s l .1))) records-more
+      ∙ ap (λ (n : ℕ). (line (suc index) a ++ lines (suc (suc index)) b, (n, u))) n
+      ∙ ap (λ (i : ℕ). (line i a ++ lines (suc i) b, (i + length l, u))) (sym (add-one index))
 
 -- Reading on from a place gives the records that are left.
 pub reads-left : (n : ℕ) (tape : List ℕ) (at : ℕ) → length tape - at ≤ n → records-from n tape at ≡ records (drop at tape)

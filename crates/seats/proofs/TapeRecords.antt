@@ -3,19 +3,16 @@
 use mathlib.Core.List.{List, [], _∷_, _++_, append-assoc, append-nil}
 use mathlib.Core.Path.{_≡_, refl, sym, ap, ap₂, _∙_}
 use Prim.Native.Nat.{ℕ, zero, suc, _+_, _-_, _%_, _≤_, _<_}
-use native.Mathlib.Nat.{not-suc-le-zero, add-zero, zero-add}
+use native.Mathlib.Nat.{not-suc-le-zero, add-zero}
 use native.Mathlib.Omega.{arith}
 use lib.ListN.{length, take, drop, length-append, length-drop}
 use lib.Seq.{take-append-le, drop-append-le, take-at, drop-at}
 use Rattle.lists.specs.Runs.{run, Each}
 use Rattle.lists.proofs.Runs.{run-append, answers-length}
-use Rattle.graph.specs.Drawing.{edge-count}
-use Rattle.seats.specs.Seats.{State, fresh}
 use Rattle.seats.specs.Calls.{Answer}
-use Rattle.seats.specs.Records.{record-length, step}
-use Rattle.seats.specs.Lists.{answers, end}
+use Rattle.seats.specs.Records.{record-length}
 use Rattle.seats.specs.Working.{record-count}
-use Rattle.seats.specs.Tape.{records-upto, records, line, lines, end-line, printed, fed, Parts, joined, fed-parts}
+use Rattle.seats.specs.Tape.{records-upto, records, line, lines, fed, Parts, joined, fed-parts}
 
 -- ---- one record after another
 -- More records than a tape has bytes change nothing.
@@ -95,21 +92,8 @@ joined-records (r ∷ l) h =
     ∙ ap₂ (λ (x t : List ℕ). x ∷ records t) (take-at r (joined l) record-length e) (drop-at r (joined l) record-length e)
     ∙ ap (λ (t : List (List ℕ)). r ∷ t) (joined-records l (h .1))
 
--- ---- answers and lines
-module _ (s : State) where
-  pub answers-count : (l : List (List ℕ)) → length (answers s l) ≡ length l
-  unfolding answers
-  answers-count = answers-length step s
-
-  module _ (l m : List (List ℕ)) where
-    pub answers-append : answers s (l ++ m) ≡ answers s l ++ answers (end s l) m
-    unfolding answers end
-    answers-append = ap (λ (p : List Answer × State). p .0) (run-append step s l m)
-
-    pub end-append : end s (l ++ m) ≡ end (end s l) m
-    unfolding end
-    end-append = ap (λ (p : List Answer × State). p .1) (run-append step s l m)
-
+-- ---- a tape in parts
+-- The lines of answers behind others go on counting.
 pub lines-append : (i : ℕ) (a b : List Answer) → lines i (a ++ b) ≡ lines i a ++ lines (i + length a) b
 unfolding lines
 lines-append i [] b = ap (λ (k : ℕ). lines k b) (sym (add-zero i))
@@ -118,47 +102,34 @@ lines-append i (x ∷ a) b =
     ap (λ (t : List ℕ). line i x ++ t) (lines-append (suc i) a b ∙ ap (λ (k : ℕ). lines (suc i) a ++ lines k b) e)
     ∙ sym (append-assoc (line i x) (lines (suc i) a) (lines (i + suc (length a)) b))
 
--- ---- a tape in parts
--- A tape without bytes comes to nothing.
-pub fed-none : (s : State) (count : ℕ) → fed s count [] ≡ ([], (count, s))
-unfolding fed records records-upto answers end run lines
-fed-none s count = ap (λ (n : ℕ). ([], (n, s))) (add-zero count)
+module _ {S : Type 0} (step : S → List ℕ → Answer × S) where
+  -- A tape without bytes comes to nothing.
+  pub fed-none : (s : S) (count : ℕ) → fed step s count [] ≡ ([], (count, s))
+  unfolding fed records records-upto run lines
+  fed-none s count = ap (λ (n : ℕ). ([], (n, s))) (add-zero count)
 
--- A tape whose front ends where a record ends: the front, and the rest after it.
-pub fed-append : (s : State) (count : ℕ) (p q : List ℕ) → length p % record-length ≡ 0
-    → let (text, (n, t)) = fed s count p in fed s count (p ++ q) ≡ (text ++ fed t n q .0, fed t n q .1)
-unfolding fed
-fed-append s count p q h =
-    let l = records p in
-    let m = records q in
-    let e : suc count + length (answers s l) ≡ suc (count + length l) = omega (arith, answers-count s l) in
-    let f : count + length (l ++ m) ≡ count + length l + length m = omega (arith, length-append l m) in
-    ap (λ (r : List (List ℕ)). (lines (suc count) (answers s r), (count + length r, end s r))) (records-append p q h)
-    ∙ ap₂ (λ (t : List ℕ) (z : ℕ × State). (t, z))
-    (ap (lines (suc count)) (answers-append s l m)
-    ∙ lines-append (suc count) (answers s l) (answers (end s l) m)
-    ∙ ap (λ (k : ℕ). lines (suc count) (answers s l) ++ lines k (answers (end s l) m)) e)
-    (ap₂ (λ (n : ℕ) (z : State). (n, z)) f (end-append s l m))
+  -- A tape whose front ends where a record ends: the front, and the rest after it.
+  pub fed-append : (s : S) (count : ℕ) (p q : List ℕ) → length p % record-length ≡ 0
+      → let (text, (n, t)) = fed step s count p in fed step s count (p ++ q) ≡ (text ++ fed step t n q .0, fed step t n q .1)
+  unfolding fed
+  fed-append s count p q h =
+      let l = records p in
+      let m = records q in
+      let (a, t) = run step s l in
+      let (b, u) = run step t m in
+      let e : suc count + length a ≡ suc (count + length l) = omega (arith, answers-length step s l) in
+      let f : count + length (l ++ m) ≡ count + length l + length m = omega (arith, length-append l m) in
+      ap (λ (r : List (List ℕ)). (lines (suc count) (run step s r .0), (count + length r, run step s r .1))) (records-append p q h)
+      ∙ ap (λ (z : List Answer × S). (lines (suc count) (z .0), (count + length (l ++ m), z .1))) (run-append step s l m)
+      ∙ ap₂ (λ (t : List ℕ) (n : ℕ). (t, (n, u)))
+      (lines-append (suc count) a b ∙ ap (λ (k : ℕ). lines (suc count) a ++ lines k b) e)
+      f
 
--- Feeding a tape in parts is feeding it whole.
-pub parts-whole : (s : State) (count : ℕ) (parts : List (List ℕ)) → Parts parts → fed-parts s count parts ≡ fed s count (joined parts)
-unfolding fed-parts joined Parts
-parts-whole s count [] h = sym (fed-none s count)
-parts-whole s count (p ∷ []) h = ap (λ (t : List ℕ). (t, fed s count p .1)) (append-nil (fed s count p .0)) ∙ ap (fed s count) (sym (append-nil p))
-parts-whole s count (p ∷ q ∷ l) h =
-    let (text, (n, t)) = fed s count p in
-    ap (λ (z : List ℕ × (ℕ × State)). (text ++ z .0, z .1)) (parts-whole t n (q ∷ l) (h .1)) ∙ sym (fed-append s count p (q ++ joined l) (h .0))
-
--- What a tape prints: its lines, and the last line.
-pub printed-whole : (tape : List ℕ) → let (text, (count, s)) = fed fresh 0 tape in printed tape ≡ text ++ end-line count (edge-count (s .graph))
-unfolding printed fed
-printed-whole tape =
-    let l = records tape in
-    ap (λ (n : ℕ). lines 1 (answers fresh l) ++ end-line n (edge-count (end fresh l .graph))) (sym (zero-add (length l)))
-
--- What a tape in parts prints: the lines of its parts, one part after another, and the last line.
-pub printed-parts : (parts : List (List ℕ)) → Parts parts
-    → let (text, (count, s)) = fed-parts fresh 0 parts in printed (joined parts) ≡ text ++ end-line count (edge-count (s .graph))
-printed-parts parts h =
-    printed-whole (joined parts)
-    ∙ sym (ap (λ (z : List ℕ × (ℕ × State)). z .0 ++ end-line (z .1 .0) (edge-count (z .1 .1 .graph))) (parts-whole fresh 0 parts h))
+  -- Feeding a tape in parts is feeding it whole.
+  pub parts-whole : (s : S) (count : ℕ) (parts : List (List ℕ)) → Parts parts → fed-parts step s count parts ≡ fed step s count (joined parts)
+  unfolding fed-parts joined Parts
+  parts-whole s count [] h = sym (fed-none s count)
+  parts-whole s count (p ∷ []) h = ap (λ (t : List ℕ). (t, fed step s count p .1)) (append-nil (fed step s count p .0)) ∙ ap (fed step s count) (sym (append-nil p))
+  parts-whole s count (p ∷ q ∷ l) h =
+      let (text, (n, t)) = fed step s count p in
+      ap (λ (z : List ℕ × (ℕ × S)). (text ++ z .0, z .1)) (parts-whole t n (q ∷ l) (h .1)) ∙ sym (fed-append s count p (q ++ joined l) (h .0))

@@ -1,10 +1,10 @@
 -- The customer's three demands as statements over the promises that the contracts of the code cite: a field for each sentence, its meaning above it.
--- Bytes, records, tapes and buffers are any, and so is the state at hand, but where a sentence speaks of the states that a keeper reaches.
+-- Bytes, records and buffers are any, and so is the state at hand, but where a sentence speaks of the states that a keeper reaches.
 use mathlib.Core.Path.{_≡_}
 use mathlib.Core.Bool.{Bool, false, not}
 use mathlib.Core.Logic.{_↔_, _⊎_}
 use mathlib.Core.List.{List, [], _∷_, _++_, map, List·Memᴰ}
-use Prim.Native.Nat.{ℕ, suc, _+_, _-_, _^_, _<_, _≤_}
+use Prim.Native.Nat.{ℕ, _-_, _<_, _≤_}
 use lib.ListN.{length, take, drop}
 use lib.Dec.{T, eqb, ltb}
 use Rattle.sets.specs.Sets.{union, gather}
@@ -24,17 +24,15 @@ use Rattle.seats.specs.Calls.{Call, change, declare, assign, accepted, r
 use Rattle.seats.specs.Calls as calls
 use Rattle.seats.specs.Records.{Decoded, malformed, well-formed, decode}
 use Rattle.seats.specs.Images.{least-image, Contents, distance, far-at, counts-at, contents, restored, image, entry-checks, content-checks, measured, unmeasured}
-use Rattle.seats.specs.Lists.{answers, end, presence, declaration, assignment}
-use Rattle.seats.specs.Tape.{records, lines, PartAnswer, fills, uncounted, joined}
+use Rattle.seats.specs.Lists.{end, presence, declaration, assignment}
 use Rattle.seats.specs.ListTheorem.{Start}
-use Rattle.seats.specs.Promises.{StepPromise, LoadPromise, ReadPromise, MeasurePromise, SavePromise, FeedPromise, KeeperStart, DemandThreeOnCode}
-use Rattle.seats.specs.Reading.{read-state, read-answer, read-filled, read-image, read-measured, read-part, read-fed}
+use Rattle.seats.specs.Promises.{StepPromise, LoadPromise, ReadPromise, MeasurePromise, SavePromise, KeeperStart, DemandThreeOnCode}
+use Rattle.seats.specs.Reading.{read-state, read-answer, read-filled, read-image, read-measured}
 use Rattle.seats.specs.declared.State.{State}
 use Rattle.seats.specs.declared.Answer.{Answer}
 use Rattle.seats.specs.declared.Filled.{Filled}
 use Rattle.seats.specs.declared.ImageRead.{ImageRead}
 use Rattle.seats.specs.declared.Measured.{Measured}
-use Rattle.seats.specs.declared.Fed.{Fed}
 
 -- ---- what the demands are said with
 
@@ -44,23 +42,12 @@ pub record One {X Y : Type 0} (read : X → Y) (Promise : X → Type 0) : Type 0
   pub kept : Promise some
   pub alike : (x : X) → Promise x → read x ≡ read some
 
--- An answer and a state, what filling a buffer answers with the buffer, and what a part of a tape comes to, as the definitions have them.
+-- An answer and a state, and what filling a buffer answers with the buffer, as the definitions have them.
 abbrev pub read-outcome : Answer × State → calls.Answer × seats.State
 read-outcome z = (read-answer (z .0), read-state (z .1))
 
 abbrev pub read-left : Filled × List ℕ → bytes.Filled × List ℕ
 read-left z = (read-filled (z .0), z .1)
-
-abbrev pub read-part-left : Fed × List ℕ → (PartAnswer × List ℕ) × (ℕ × seats.State)
-read-part-left z = read-fed (z .0) (z .1)
-
--- The lines of a part of a tape, after so many records and from the state s.
-abbrev pub part-lines : seats.State → ℕ → List ℕ → List ℕ
-part-lines s count part = lines (suc count) (answers s (records part))
-
--- The part f is not done: the buffer, the records so far and the state are as they were.
-abbrev pub Undone : State → ℕ → List ℕ → Fed → List ℕ → Type 0
-Undone s count buffer f left = (left ≡ buffer) × (f .count ≡ count) × (read-state (f .state) ≡ read-state s)
 
 -- The keeper's answer is a refusal.
 abbrev pub refuses : Answer → Bool
@@ -156,10 +143,6 @@ pub record DemandOne : Type 0 where
   pub measure-answered : (l : List ℕ) → One read-measured (MeasurePromise l)
   -- So there is to every save, with the buffer as it leaves it.
   pub save-answered : (s : seats.State) (buffer : List ℕ) → One read-left (λ z. SavePromise s buffer (z .0) (z .1))
-  -- So there is to every part of a tape, with the buffer, the records so far and the state.
-  pub part-answered : (s : State) (count : ℕ) (part buffer : List ℕ) → One read-part-left (λ z. FeedPromise s count part buffer (z .0) (z .1))
-  -- The records of a tape are all of it, and each has its answer.
-  pub tape-answered : (s : seats.State) (tape : List ℕ) → (joined (records tape) ≡ tape) × (length (answers s (records tape)) ≡ length (records tape))
   -- A refused record has a number of the paper's for calls, the place of the check that refuses it, and leaves the state.
   pub call-refused : (s t : State) (l : List ℕ) (a : Answer) (n p : ℕ) → StepPromise s l a t → read-answer a ≡ refused n p
       → OfCall n × RefusedWith (read-state s) (decode l) n p × (read-state t ≡ read-state s)
@@ -169,12 +152,6 @@ pub record DemandOne : Type 0 where
   -- A refused save has number 9 and place 0, and leaves every byte of the buffer.
   pub save-refused : (s : seats.State) (buffer left : List ℕ) (f : Filled) (n p : ℕ) → SavePromise s buffer f left → read-filled f ≡ too-short n p
       → (n ≡ 9) × (p ≡ 0) × (left ≡ buffer)
-  -- A refused part of a tape has number 9 and place 0 and is not done.
-  pub part-refused : (s : State) (count : ℕ) (part buffer left : List ℕ) (f : Fed) (n p : ℕ) → FeedPromise s count part buffer f left → read-part (f .answer) ≡ fills (too-short n p)
-      → (n ≡ 9) × (p ≡ 0) × Undone s count buffer f left
-  -- One whose records 64 bits do not count is not done either.
-  pub part-uncounted : (s : State) (count : ℕ) (part buffer left : List ℕ) (f : Fed) → FeedPromise s count part buffer f left → read-part (f .answer) ≡ uncounted
-      → Undone s count buffer f left
 
 -- ---- demand 2: exactly what the paper defines
 
@@ -227,19 +204,6 @@ pub record DemandTwo : Type 0 where
   -- A save into enough bytes answers with the image's length, fills the front with it and touches nothing behind.
   pub save-accepted : (s : seats.State) (buffer left : List ℕ) (f : Filled) → SavePromise s buffer f left → length (image s) ≤ length buffer
       → (read-filled f ≡ written (length (image s))) × (take (length (image s)) left ≡ image s) × (drop (length (image s)) left ≡ drop (length (image s)) buffer)
-  -- A part of a tape is refused exactly where its records are counted and the buffer has fewer bytes than its lines.
-  pub part-refused-iff : (s : State) (count : ℕ) (part buffer left : List ℕ) (f : Fed) (n p : ℕ) → FeedPromise s count part buffer f left
-      → (read-part (f .answer) ≡ fills (too-short n p))
-      ↔ ((n ≡ 9) × (p ≡ 0) × (count + length (records part) < 2 ^ 64) × (length buffer < length (part-lines (read-state s) count part)))
-  -- It is left uncounted exactly where 64 bits do not hold the records so far.
-  pub part-uncounted-iff : (s : State) (count : ℕ) (part buffer left : List ℕ) (f : Fed) → FeedPromise s count part buffer f left
-      → (read-part (f .answer) ≡ uncounted) ↔ (2 ^ 64 ≤ count + length (records part))
-  -- Otherwise its lines stand at the buffer's front with nothing behind touched, its records are counted, and the state is the one that they leave.
-  pub part-accepted : (s : State) (count : ℕ) (part buffer left : List ℕ) (f : Fed) → FeedPromise s count part buffer f left
-      → count + length (records part) < 2 ^ 64 → length (part-lines (read-state s) count part) ≤ length buffer
-      → let text = part-lines (read-state s) count part in
-      (read-part (f .answer) ≡ fills (written (length text))) × (left ≡ text ++ drop (length text) buffer)
-      × (f .count ≡ count + length (records part)) × (read-state (f .state) ≡ end (read-state s) (records part))
   -- What a keeper reaches, saved into enough bytes and given to loading alone or behind any bytes, loads as that state, whatever is at hand.
   pub saved-loads : (s h t : State) (buffer left before : List ℕ) (f : Filled) (n : ℕ) (a : Answer) → Reached s
       → SavePromise (read-state s) buffer f left → read-filled f ≡ written n → LoadPromise h (before ++ take n left) a t

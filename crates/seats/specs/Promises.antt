@@ -1,4 +1,4 @@
--- What the operations promise of one record, one load, one image read or measured, one save and one part of a tape; and demand 3 on the code, the list theorem for every chain of the step's promises.
+-- What the operations promise of one record, one load, one image read or measured and one save; and demand 3 on the code, the list theorem for every chain of the step's promises.
 use mathlib.Core.Path.{_≡_}
 use mathlib.Core.List.{List, map}
 use Prim.Native.Nat.{ℕ}
@@ -11,16 +11,14 @@ use Rattle.seats.specs.Calls.{accepted}
 use Rattle.seats.specs.Records.{step}
 use Rattle.seats.specs.Images.{load, image-verdict, load-over, measure}
 use Rattle.seats.specs.Saving.{save}
-use Rattle.seats.specs.Tape.{feed}
 use Rattle.seats.specs.Lists.{answers, end}
 use Rattle.seats.specs.ListTheorem.{ListTheorem}
-use Rattle.seats.specs.Reading.{read-state, read-answer, read-filled, read-image, read-measured, read-fed}
+use Rattle.seats.specs.Reading.{read-state, read-answer, read-filled, read-image, read-measured}
 use Rattle.seats.specs.declared.State.{State}
 use Rattle.seats.specs.declared.Answer.{Answer}
 use Rattle.seats.specs.declared.Filled.{Filled}
 use Rattle.seats.specs.declared.ImageRead.{ImageRead}
 use Rattle.seats.specs.declared.Measured.{Measured}
-use Rattle.seats.specs.declared.Fed.{Fed}
 
 -- A state is fresh.
 abbrev pub FreshPromise : State → Type 0
@@ -45,10 +43,6 @@ MeasurePromise l m = read-measured m ≡ measure l
 -- Saving the state s into the buffer gives the answer f and leaves the buffer as `after`.
 abbrev pub SavePromise : seats.State → List ℕ → Filled → List ℕ → Type 0
 SavePromise s buffer f after = (read-filled f, after) ≡ save s buffer
-
--- By the part of a tape, after so many records and from the state s, feeding gives f and leaves the buffer as `after`.
-abbrev pub FeedPromise : State → ℕ → List ℕ → List ℕ → Fed → List ℕ → Type 0
-FeedPromise s count part buffer f after = read-fed f after ≡ feed (read-state s) count part buffer
 
 -- A keeper starts with a fresh state, or with the state that an accepted load gives, whatever was at hand.
 pub data KeeperStart : State → Type 0 where

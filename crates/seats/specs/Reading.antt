@@ -29,7 +29,6 @@ use Rattle.seats.specs.declared.Measured.the-variants as measures
 use Rattle.seats.specs.declared.Counts as counts-struct
 use Rattle.seats.specs.declared.PartAnswer as part-enum
 use Rattle.seats.specs.declared.PartAnswer.the-variants as part-answers
-use Rattle.seats.specs.declared.Fed as fed-struct
 use Rattle.seats.specs.declared.Filled as filled-enum
 use Rattle.seats.specs.declared.Filled.the-variants as fillings
 
@@ -102,7 +101,3 @@ unfoldable pub read-part : part-enum.PartAnswer → PartAnswer
 read-part (part-answers.Written n) = fills (written n)
 read-part (part-answers.TooShort r) = fills (too-short (r .number) (r .place))
 read-part part-answers.Uncounted = uncounted
-
--- What feeding a part of a tape gives, with the buffer that it leaves.
-abbrev pub read-fed : fed-struct.Fed → List ℕ → (PartAnswer × List ℕ) × (ℕ × State)
-read-fed f buffer = ((read-part (f .answer), buffer), (f .count, read-state (f .state)))

@@ -1,16 +1,14 @@
--- Document 01, "The tape": the records of a tape, the lines that benchtape prints, and a tape fed in parts.
+-- Document 01, "The tape": the records of a tape, the lines that benchtape prints, and a tape fed in parts, for any step.
 use mathlib.Core.Bool.{cond, true, false}
 use mathlib.Core.List.{List, [], _∷_, _++_}
 use mathlib.Core.Path.{_≡_}
 use Prim.Native.Nat.{ℕ, zero, suc, _+_, _/_, _%_, _^_}
 use lib.ListN.{length, take, drop}
 use lib.Dec.{leb, ltb}
-use Rattle.graph.specs.Drawing.{edge-count}
+use Rattle.lists.specs.Runs.{run}
 use Rattle.seats.specs.Bytes.{Filled, fill}
-use Rattle.seats.specs.Seats.{State, fresh}
 use Rattle.seats.specs.Calls.{Answer, accepted, answered, refused}
 use Rattle.seats.specs.Records.{record-length}
-use Rattle.seats.specs.Lists.{answers, end}
 
 -- The records of a tape, n at the most: each has the record's length but the last, which has what is left.
 unfoldable pub records-upto : ℕ → List ℕ → List (List ℕ)
@@ -62,19 +60,13 @@ lines i (a ∷ l) = line i a ++ lines (suc i) l
 unfoldable pub end-line : ℕ → ℕ → List ℕ
 end-line count edges = (101 ∷ 110 ∷ 100 ∷ space ∷ digits count) ++ (space ∷ digits edges) ++ (line-feed ∷ [])
 
--- What benchtape prints for a tape.
-unfoldable pub printed : List ℕ → List ℕ
-printed tape =
-    let l = records tape in
-    lines 1 (answers fresh l) ++ end-line (length l) (edge-count (end fresh l .graph))
-
 -- ---- a tape in parts
 
 -- A part of a tape, after so many records and from the state that they left: its lines, the records so far, and the state after it.
-unfoldable pub fed : State → ℕ → List ℕ → List ℕ × (ℕ × State)
-fed s count part =
+unfoldable pub fed : {S : Type 0} → (S → List ℕ → Answer × S) → S → ℕ → List ℕ → List ℕ × (ℕ × S)
+fed step s count part =
     let l = records part in
-    (lines (suc count) (answers s l), (count + length l, end s l))
+    (lines (suc count) (run step s l .0), (count + length l, run step s l .1))
 
 -- What feeding a part of a tape answers: what filling the buffer does, or that 64 bits do not hold the records so far.
 pub data PartAnswer : Type 0 where
@@ -82,9 +74,9 @@ pub data PartAnswer : Type 0 where
   uncounted : PartAnswer
 
 -- A part of a tape with its lines at a buffer's front, and what it comes to; where the buffer is shorter, refusal 9 and nothing done, and nothing either where 64 bits do not hold the records so far.
-unfoldable pub feed : State → ℕ → List ℕ → List ℕ → (PartAnswer × List ℕ) × (ℕ × State)
-feed s count part buffer =
-    let (text, after) = fed s count part in
+unfoldable pub feed : {S : Type 0} → (S → List ℕ → Answer × S) → S → ℕ → List ℕ → List ℕ → (PartAnswer × List ℕ) × (ℕ × S)
+feed step s count part buffer =
+    let (text, after) = fed step s count part in
     let (filled, left) = fill 9 text buffer in
     cond (ltb (after .0) (2 ^ 64))
     ((fills filled, left), cond (leb (length text) (length buffer)) after (count, s))
@@ -102,9 +94,9 @@ joined [] = []
 joined (p ∷ l) = p ++ joined l
 
 -- The parts one after another: their lines, the records so far, and the state after the last.
-unfoldable pub fed-parts : State → ℕ → List (List ℕ) → List ℕ × (ℕ × State)
-fed-parts s count [] = ([], (count, s))
-fed-parts s count (p ∷ l) =
-    let (text, (n, t)) = fed s count p in
-    let rest = fed-parts t n l in
+unfoldable pub fed-parts : {S : Type 0} → (S → List ℕ → Answer × S) → S → ℕ → List (List ℕ) → List ℕ × (ℕ × S)
+fed-parts step s count [] = ([], (count, s))
+fed-parts step s count (p ∷ l) =
+    let (text, (n, t)) = fed step s count p in
+    let rest = fed-parts step t n l in
     (text ++ rest .0, rest .1)

@@ -13,9 +13,7 @@ use Rattle.seats.specs.Calls.{Answer, seat-checks}
 use Rattle.seats.specs.Records.{record-length, Fields}
 use Rattle.seats.specs.Tape.{records, digits, space, line-feed, line, fed}
 use Rattle.seats.specs.Written.{Written}
-use Rattle.seats.specs.Reading.{read-state}
 use Rattle.seats.specs.declared.text.Lines.{Lines}
-use Rattle.seats.specs.declared.running.Ran.{Ran}
 
 -- The little-endian number of the four bytes at place i, written out.
 abbrev pub quad-of : List ℕ → ℕ → ℕ
@@ -62,9 +60,9 @@ pub record Lined (buffer : List ℕ) (b : Lines) (a : Answer) (after : List ℕ)
   pub bounded : r .length ≤ b .length + longest-line
   pub put : after ≡ cond (leb (r .length) (length buffer)) (sets buffer (b .length) (line (r .index) a)) buffer
 
--- What running a part of a tape after count records and from the state s gives: what the part comes to, how long its lines are, and the lines at the buffer's front where it has room for them all.
-pub record PartRun (s : State) (count : ℕ) (part buffer : List ℕ) (r : Ran) (after : List ℕ) : Type 0 where
-  pub comes-to : (r .lines .index, read-state (r .state)) ≡ fed s count part .1
-  pub long : r .lines .length ≡ length (fed s count part .0)
-  pub bounded : r .lines .length ≤ longest-line * length (records part)
-  pub put : r .lines .length ≤ length buffer → Written buffer 0 (fed s count part .0) after (r .lines .length)
+-- What running a part of a tape by a step, after count records and from the state s, gives: the state t and the records so far that the part comes to, how long its lines b are, and the lines at the buffer's front where it has room for them all.
+pub record PartRun {S : Type 0} (step : S → List ℕ → Answer × S) (s : S) (count : ℕ) (part buffer : List ℕ) (b : Lines) (t : S) (after : List ℕ) : Type 0 where
+  pub comes-to : (b .index, t) ≡ fed step s count part .1
+  pub long : b .length ≡ length (fed step s count part .0)
+  pub bounded : b .length ≤ longest-line * length (records part)
+  pub put : b .length ≤ length buffer → Written buffer 0 (fed step s count part .0) after (b .length)

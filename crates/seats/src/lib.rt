@@ -3,16 +3,13 @@ pub mod answers;
 pub mod deciding;
 mod endian;
 mod image;
-mod lent;
 pub mod loading;
-mod reader;
+pub mod reader;
 pub mod records;
-mod running;
 pub mod saving;
 mod searches;
 pub mod seating;
 pub mod stepping;
-pub mod tape;
 pub mod text;
 mod writing;
 
@@ -141,11 +138,4 @@ pub enum PartAnswer {
     Written(usize),
     TooShort(Refusal),
     Uncounted,
-}
-
-// What feeding a part of a tape gives: its answer, the records so far, and the state after them.
-pub struct Fed {
-    pub answer: PartAnswer,
-    pub count: u64,
-    pub state: State,
 }

@@ -13,7 +13,7 @@ ghost use Rattle.graph.specs.Reading.{sets-in, drawn-from};
 ghost use Rattle.seats.specs.Seats.{seat-count};
 ghost use Rattle.seats.specs.Images.{set-bytes, role-set-bytes, privilege-bytes, role-width, conflict-width, seat-width, distance, entries-at, contents, content-checks, trailer-length, far-at, load-contents, not-loaded, image-verdict};
 ghost use Rattle.seats.specs.Reading.{state-of, read-image, read-counts};
-ghost use Rattle.seats.specs.Promises.{ReadPromise, LoadPromise, MeasurePromise};
+ghost use Rattle.seats.specs.Promises.{FreshPromise, ReadPromise, LoadPromise, MeasurePromise};
 ghost use Rattle.seats.specs.ImageWork.{Roles, Conflicts, Seats, entry-at, value-bytes, part-width, entry-place, entry-passes, store-entries, table-in, EntryTaken, EntriesRead, ContentsRead};
 use crate::Answer;
 use crate::Counts;
@@ -35,7 +35,6 @@ use crate::image::counts_at;
 use crate::image::distance;
 use crate::image::width;
 use crate::searches::pair_seat;
-use crate::tape::fresh;
 use graph::Found;
 use graph::Privilege;
 use graph::Refusal;
@@ -310,6 +309,18 @@ fn far_back(bytes: &[u8]) -> usize
     ensures { λ r. ⌜ r ≡ far-at (now (bytes .entry)) (length (now (bytes .entry))) ⌝ }
 {
     quad(bytes, bytes.len() - TRAILER) as usize
+}
+
+// A fresh state.
+pub fn fresh() -> State
+    ensures { λ r. ⌜ FreshPromise r ⌝ }
+{
+    State {
+        roles: 0,
+        sets: [0; 64],
+        conflicts: [0; 64],
+        seats: [0; 64],
+    }
 }
 
 // A refusal of an image, at place 0.

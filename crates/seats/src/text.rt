@@ -58,7 +58,7 @@ fn has_room(room: usize, i: usize, index: u64, x: u64, y: u64) -> bool
 }
 
 // The lines with that of the next record, which is put behind them where the buffer has room for it.
-pub(crate) fn next_line(buffer: &mut [u8], lines: Lines, answer: Answer) -> Lines
+pub fn next_line(buffer: &mut [u8], lines: Lines, answer: Answer) -> Lines
     requires { ⌜ (lines .index + 1 < 2 ^ 64) × (lines .length + longest-line < 2 ^ 64) ⌝ }
     ensures { λ r. ⌜ Lined (now (buffer .entry)) lines (read-answer answer) (now (buffer .exit)) r ⌝ }
 {
