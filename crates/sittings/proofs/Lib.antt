@@ -9,3 +9,5 @@ pub mod History
 pub mod Projection
 pub mod Question
 pub mod ListTheorem
+-- ---- tapes
+pub mod SittingCells

@@ -1,4 +1,4 @@
--- What the operations promise of one record, one load and one question; and demand 3 on the code, the list theorem for every chain of the step's promises.
+-- What the operations promise of one record, one load, one question and one part of a tape; and demand 3 on the code, the list theorem for every chain of the step's promises.
 use mathlib.Core.Path.{_≡_}
 use mathlib.Core.List.{List, map}
 use Prim.Native.Nat.{ℕ}
@@ -6,6 +6,7 @@ use Rattle.lists.specs.Runs.{Each, Chain}
 use Rattle.graph.specs.Drawing.{edge}
 use Rattle.seats.specs.Bytes.{Bytes}
 use Rattle.seats.specs.Calls.{accepted}
+use Rattle.seats.specs.Tape.{feed}
 use Rattle.seats.specs.Reading.{read-answer}
 use Rattle.seats.specs.declared.Answer.{Answer}
 use Rattle.sittings.specs.Sittings.{fresh}
@@ -15,8 +16,9 @@ use Rattle.sittings.specs.Records.{step}
 use Rattle.sittings.specs.Images.{load-over}
 use Rattle.sittings.specs.Lists.{answers, end}
 use Rattle.sittings.specs.ListTheorem.{ListTheorem}
-use Rattle.sittings.specs.Reading.{read-sitting}
+use Rattle.sittings.specs.Reading.{read-sitting, read-fed}
 use Rattle.sittings.specs.declared.Sitting.{Sitting}
+use Rattle.sittings.specs.declared.Fed.{Fed}
 
 -- A sitting is fresh.
 abbrev pub FreshPromise : Sitting → Type 0
@@ -33,6 +35,10 @@ LoadPromise z l a y = (read-answer a, read-sitting y) ≡ load-over (read-sittin
 -- The question of seat i for privilege p, on the sitting z, gives the answer a.
 abbrev pub AskPromise : sittings.Sitting → ℕ → ℕ → Answer → Type 0
 AskPromise z i p a = read-answer a ≡ ask-active z i p
+
+-- By the part of a tape, after so many records and from the sitting z, feeding gives f and leaves the buffer as `after`.
+abbrev pub FeedPromise : Sitting → ℕ → List ℕ → List ℕ → Fed → List ℕ → Type 0
+FeedPromise z count part buffer f after = read-fed f after ≡ feed step (read-sitting z) count part buffer
 
 -- A keeper starts with a fresh sitting, or with the sitting that an accepted load gives, whatever was at hand.
 pub data KeeperStart : Sitting → Type 0 where

@@ -5,7 +5,8 @@ use lib.ListN.{set}
 use Rattle.graph.specs.Reading.{read-change}
 use Rattle.seats.specs.Seats.{State}
 use Rattle.seats.specs.Calls.{Answer, change}
-use Rattle.seats.specs.Reading.{state-of, read-request, read-answer}
+use Rattle.seats.specs.Tape.{PartAnswer}
+use Rattle.seats.specs.Reading.{state-of, read-request, read-answer, read-part}
 use Rattle.sittings.specs.Sittings.{Sitting}
 use Rattle.sittings.specs.Calls.{Call, call, exclude, activate, deactivate}
 use Rattle.sittings.specs.Records.{Decoded, malformed, well-formed}
@@ -19,6 +20,7 @@ use Rattle.sittings.specs.declared.Decoded.the-variants as decodings
 use Rattle.sittings.specs.declared.Stored as stored-enum
 use Rattle.sittings.specs.declared.Stored.the-variants as storings
 use Rattle.sittings.specs.declared.Chosen as chosen-struct
+use Rattle.sittings.specs.declared.Fed as fed-struct
 
 -- The sitting of this state, these pairs and these active roles.
 abbrev pub sitting-of : State → List ℕ → List ℕ → Sitting
@@ -54,3 +56,7 @@ stored z (storings.ActiveOf e) = sitting-of (z .state) (z .pairs) (set (z .activ
 -- What a call of kinds 13 to 15 comes to: its answer, and the sitting after it.
 abbrev pub read-chosen : Sitting → chosen-struct.Chosen → Answer × Sitting
 read-chosen z d = (read-answer (d .answer), stored z (d .stored))
+
+-- What feeding a part of a tape gives, with the buffer that it leaves.
+abbrev pub read-fed : fed-struct.Fed → List ℕ → (PartAnswer × List ℕ) × (ℕ × Sitting)
+read-fed f buffer = ((read-part (f .answer), buffer), (f .count, read-sitting (f .sitting)))

@@ -3,15 +3,19 @@ pub mod asking;
 pub mod choosing;
 mod clashing;
 pub mod following;
+mod lent;
 pub mod loading;
 mod reaching;
 pub mod records;
+mod running;
 pub mod stepping;
+pub mod tape;
 
 use graph::Change;
 use graph::Role;
 use graph::Verdict;
 use seats::Answer;
+use seats::PartAnswer;
 use seats::Request;
 use seats::Seat;
 use seats::SeatEntry;
@@ -86,5 +90,12 @@ pub struct Stepped {
 // What loading answers, and the sitting after it.
 pub struct Loaded {
     pub answer: Answer,
+    pub sitting: Sitting,
+}
+
+// What feeding a part of a tape gives: its answer, the records so far, and the sitting after them.
+pub struct Fed {
+    pub answer: PartAnswer,
+    pub count: u64,
     pub sitting: Sitting,
 }
