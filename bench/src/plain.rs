@@ -1,13 +1,15 @@
-//! The keeper of document 01 as one writes it in Rust without proofs: what the proved keeper is timed against.
+//! The keeper of documents 01 and 02 as one writes it in Rust without proofs: what the proved keeper is timed against.
 //!
 //! It goes the same way as the proved one, so that the table compares two programs and not two algorithms: the state is
-//! what an image holds, kinds 1 to 7 draw, edit, close and judge, and closing does each role once. What only concerns
-//! the numbers and the sets at hand is refused before anything is drawn.
+//! what an image holds and, unsaved, the pairs of roles and the active roles; kinds 1 to 7 draw, edit, close and judge,
+//! and closing does each role once. What only concerns the numbers and the sets at hand is refused before anything is
+//! drawn, and a state without pairs and active roles is not judged by them.
 //!
 //! A set is a word, member n at bit n. Sound states alone are reached, since the fields are private: no two ordinary
-//! roles have one set, so "included" is "below" for two roles.
+//! roles have one set, so "included" is "below" for two roles, and "reaches" for a role and one that is or lies below it.
 
 const ENDS: u64 = 0b11;
+const MIN_ROLE: usize = 0;
 const MAX_ROLE: usize = 1;
 
 pub const RECORD_LENGTH: usize = 32;
@@ -64,6 +66,11 @@ fn lowest(set: u64) -> u8 {
 /// The union of the entries of a table.
 fn union_of(table: &[u64; 64], keys: u64) -> u64 {
     Members(keys).fold(0, |union, key| union | table[key])
+}
+
+/// Whether every entry of a table is empty.
+fn is_empty(table: &[u64; 64]) -> bool {
+    table.iter().fold(0, |all, row| all | row) == 0
 }
 
 /// Whether a set holds both of a declared pair; a conflict stands under its lower privilege.
@@ -137,6 +144,10 @@ pub struct Plain {
     conflicts: [u64; 64],
     /// By seat number, the roles.
     seats: [u64; 64],
+    /// By the lower role, the higher ones that it excludes and that exclude it. Not saved.
+    pairs: [u64; 64],
+    /// By seat number, the active roles. Not saved.
+    active: [u64; 64],
 }
 
 impl Default for Plain {
@@ -145,7 +156,7 @@ impl Default for Plain {
     }
 }
 
-// ---- the twelve calls
+// ---- the calls
 
 impl Plain {
     pub fn fresh() -> Plain {
@@ -154,6 +165,8 @@ impl Plain {
             sets: [0; 64],
             conflicts: [0; 64],
             seats: [0; 64],
+            pairs: [0; 64],
+            active: [0; 64],
         }
     }
 
@@ -177,7 +190,7 @@ impl Plain {
             1 => b == 0,
             2 => b == 0 && y | z == 0,
             3 => b <= 1 && x | y | z == 0,
-            4..=12 => x | y | z == 0,
+            4..=15 => x | y | z == 0,
             _ => false,
         };
         if !fits || head >> 24 != 0 {
@@ -195,7 +208,10 @@ impl Plain {
             9 => self.lift(a, b),
             10 => self.assign(a, b),
             11 => self.unassign(a, b),
-            _ => self.answer(a, b),
+            12 => self.answer(a, b),
+            13 => self.exclude(a, b),
+            14 => self.activate(a, b),
+            _ => self.deactivate(a, b),
         }
     }
 
@@ -212,6 +228,24 @@ impl Plain {
     #[inline(never)]
     pub fn ask(&self, seat: u8, privilege: u8) -> Answer {
         match self.answer(seat, privilege) {
+            Ok(place) => Answer { number: 0, place },
+            Err(refusal) => refusal,
+        }
+    }
+
+    /// Whether the question is answered yes; a number that no byte holds is answered no.
+    #[inline(never)]
+    pub fn may_active(&self, seat: u32, privilege: u32) -> bool {
+        match (u8::try_from(seat), u8::try_from(privilege)) {
+            (Ok(seat), Ok(privilege)) => self.answer_active(seat, privilege) == Ok(1),
+            _ => false,
+        }
+    }
+
+    /// The question: whether the seat's active roles reach one with the privilege.
+    #[inline(never)]
+    pub fn ask_active(&self, seat: u8, privilege: u8) -> Answer {
+        match self.answer_active(seat, privilege) {
             Ok(place) => Answer { number: 0, place },
             Err(refusal) => refusal,
         }
@@ -297,7 +331,9 @@ impl Plain {
             drawing.juniors[senior] = (drawing.juniors[senior] & !(1 << a)) | juniors;
             drawing.directs[senior] |= handed;
         }
-        self.settle(self.roles & !(1 << a), &drawing, None)
+        self.settle(self.roles & !(1 << a), &drawing, None)?;
+        self.drop_pairs(a);
+        Ok(0)
     }
 
     fn grant(&mut self, a: u8, b: u8) -> Outcome {
@@ -327,7 +363,7 @@ impl Plain {
     }
 
     fn add_edge(&mut self, a: u8, b: u8) -> Outcome {
-        self.refuse_edge(a, b)?;
+        self.refuse_two_roles(a, b)?;
         let (junior, senior) = (self.sets[a as usize], self.sets[b as usize]);
         if included(junior, senior) {
             return refuse(22, a);
@@ -341,7 +377,7 @@ impl Plain {
     }
 
     fn remove_edge(&mut self, a: u8, b: u8) -> Outcome {
-        self.refuse_edge(a, b)?;
+        self.refuse_two_roles(a, b)?;
         let (junior, senior) = (self.sets[a as usize], self.sets[b as usize]);
         let between = |role: usize| {
             strictly_included(junior, self.sets[role]) && strictly_included(self.sets[role], senior)
@@ -414,31 +450,108 @@ impl Plain {
         if !has(self.seats[a as usize], b) {
             return refuse(23, a);
         }
-        self.seats[a as usize] &= !(1 << b);
+        let roles = self.seats[a as usize] & !(1 << b);
+        self.seats[a as usize] = roles;
+        for role in Members(self.active[a as usize]) {
+            if !self.reaches(roles, role) {
+                self.active[a as usize] &= !(1 << role);
+            }
+        }
         Ok(0)
     }
 
     fn answer(&self, a: u8, b: u8) -> Outcome {
-        if a > 63 {
-            return refuse(2, a);
-        }
-        if b > 63 {
-            return refuse(2, b);
-        }
+        refuse_numbers(a, b)?;
         let held = |role: usize| has(self.sets[role], b);
         Ok(Members(self.seats[a as usize]).any(held) as u8)
+    }
+
+    /// Refusal 35 names the lowest pair, whatever the state.
+    fn exclude(&mut self, a: u8, b: u8) -> Outcome {
+        self.refuse_two_roles(a, b)?;
+        let (lower, higher) = (a.min(b) as usize, a.max(b));
+        if has(self.pairs[lower], higher) {
+            return refuse(22, a);
+        }
+        let mut pairs = self.pairs;
+        pairs[lower] |= 1 << higher;
+        let under = under_each(self.roles, &self.sets);
+        refuse_exclusions(&under, &pairs, &self.active)?;
+        self.pairs[lower] |= 1 << higher;
+        Ok(0)
+    }
+
+    fn activate(&mut self, a: u8, b: u8) -> Outcome {
+        self.refuse_seat_and_role(a, b)?;
+        if has(self.active[a as usize], b) {
+            return refuse(22, a);
+        }
+        if !self.reaches(self.seats[a as usize], b as usize) {
+            return refuse(34, a);
+        }
+        if !is_empty(&self.pairs) {
+            let mut active = self.active;
+            active[a as usize] |= 1 << b;
+            let under = under_each(self.roles, &self.sets);
+            refuse_exclusions(&under, &self.pairs, &active)?;
+        }
+        self.active[a as usize] |= 1 << b;
+        Ok(0)
+    }
+
+    fn deactivate(&mut self, a: u8, b: u8) -> Outcome {
+        self.refuse_seat_and_role(a, b)?;
+        if !has(self.active[a as usize], b) {
+            return refuse(23, a);
+        }
+        self.active[a as usize] &= !(1 << b);
+        Ok(0)
+    }
+
+    /// A role has what the roles below it have, MinRole below all and every ordinary role below MaxRole, whatever the
+    /// state.
+    fn answer_active(&self, a: u8, b: u8) -> Outcome {
+        refuse_numbers(a, b)?;
+        let active = self.active[a as usize];
+        let mut held = union_of(&self.sets, active);
+        if active & (self.roles | 1 << MAX_ROLE) != 0 {
+            held |= self.sets[MIN_ROLE];
+        }
+        if active >> MAX_ROLE & 1 == 1 {
+            held |= union_of(&self.sets, self.roles);
+        }
+        Ok(has(held, b) as u8)
+    }
+
+    /// Whether one of the roles reaches the role.
+    fn reaches(&self, roles: u64, role: usize) -> bool {
+        Members(roles).any(|senior| included(self.sets[role], self.sets[senior]))
+    }
+
+    /// Takes out the pairs of a role.
+    fn drop_pairs(&mut self, role: u8) {
+        self.pairs[role as usize] = 0;
+        for row in &mut self.pairs {
+            *row &= !(1 << role);
+        }
     }
 }
 
 // ---- refusals
 
-fn refuse_pair(a: u8, b: u8) -> Outcome {
+/// Refusal 2 of two numbers.
+fn refuse_numbers(a: u8, b: u8) -> Outcome {
     if a > 63 {
         return refuse(2, a);
     }
     if b > 63 {
         return refuse(2, b);
     }
+    Ok(0)
+}
+
+fn refuse_pair(a: u8, b: u8) -> Outcome {
+    refuse_numbers(a, b)?;
     if a == b {
         return refuse(4, a);
     }
@@ -474,13 +587,8 @@ impl Plain {
         self.refuse_role(b)
     }
 
-    fn refuse_edge(&self, a: u8, b: u8) -> Outcome {
-        if a > 63 {
-            return refuse(2, a);
-        }
-        if b > 63 {
-            return refuse(2, b);
-        }
+    fn refuse_two_roles(&self, a: u8, b: u8) -> Outcome {
+        refuse_numbers(a, b)?;
         if a < 2 {
             return refuse(3, a);
         }
@@ -521,15 +629,57 @@ fn refuse_pairs(roles: u64, sets: &[u64; 64], conflicts: &[u64; 64], seats: &[u6
     Ok(0)
 }
 
+/// Refusal 35: a pair of which one lies below the other, or both of which the active roles of one seat reach.
+fn refuse_exclusions(under: &[u64; 64], pairs: &[u64; 64], active: &[u64; 64]) -> Outcome {
+    let reached = active.map(|roles| reached(under, roles));
+    let offends = |lower: usize| {
+        let higher = pairs[lower];
+        higher != 0 && (is_joined(under, lower, higher) || is_reached(&reached, lower, higher))
+    };
+    if let Some(lower) = (0..64).find(|lower| offends(*lower)) {
+        return refuse(35, lower as u8);
+    }
+    Ok(0)
+}
+
+/// Whether a role lies below or above one of these.
+fn is_joined(under: &[u64; 64], role: usize, others: u64) -> bool {
+    under[role] & others != 0 || Members(others).any(|other| under[other] >> role & 1 == 1)
+}
+
+/// Whether some seat reaches a role and one of these.
+fn is_reached(reached: &[u64; 64], role: usize, others: u64) -> bool {
+    let both = |roles: &u64| roles >> role & 1 == 1 && roles & others != 0;
+    reached.iter().any(both)
+}
+
 // ---- drawing and closing
+
+/// By role number, the roles below.
+fn under_each(roles: u64, sets: &[u64; 64]) -> [u64; 64] {
+    let mut under = [0; 64];
+    for role in Members(roles) {
+        under[role] = under_set(roles, sets, sets[role]);
+    }
+    under[MAX_ROLE] = roles | 1;
+    under
+}
+
+/// The roles below one with this set.
+fn under_set(roles: u64, sets: &[u64; 64], top: u64) -> u64 {
+    Members(roles).fold(1, |under, role| {
+        under | (strictly_included(sets[role], top) as u64) << role
+    })
+}
+
+/// The roles that these roles reach.
+fn reached(under: &[u64; 64], roles: u64) -> u64 {
+    roles | union_of(under, roles)
+}
 
 impl Plain {
     fn draw(&self) -> Drawing {
-        let mut lower = [0; 64];
-        for role in Members(self.roles) {
-            lower[role] = self.lower(self.sets[role]);
-        }
-        lower[MAX_ROLE] = self.roles | 1;
+        let lower = under_each(self.roles, &self.sets);
         let mut drawing = Drawing {
             juniors: [0; 64],
             directs: [0; 64],
@@ -542,13 +692,6 @@ impl Plain {
         drawing
     }
 
-    /// The roles below one with this set.
-    fn lower(&self, top: u64) -> u64 {
-        Members(self.roles).fold(1, |under, role| {
-            under | (strictly_included(self.sets[role], top) as u64) << role
-        })
-    }
-
     /// Closes an edited drawing and keeps its sets, or refuses them. Kind 7 gives its edge for refusal 26.
     fn settle(&mut self, roles: u64, drawing: &Drawing, removed: Option<(u8, u8)>) -> Outcome {
         let sets = close(roles, drawing);
@@ -559,8 +702,24 @@ impl Plain {
         }
         refuse_sets(roles, &sets)?;
         refuse_pairs(roles, &sets, &self.conflicts, &self.seats)?;
+        if !is_empty(&self.pairs) || !is_empty(&self.active) {
+            self.settle_active(roles, &sets)?;
+        }
         self.roles = roles;
         self.sets = sets;
+        Ok(0)
+    }
+
+    /// Switches off the active roles that no assigned role reaches among these roles, or refuses what is left. The pairs
+    /// of a role that is removed may still be there: it is joined to none, and no seat reaches it.
+    fn settle_active(&mut self, roles: u64, sets: &[u64; 64]) -> Outcome {
+        let under = under_each(roles, sets);
+        let mut active = self.active;
+        for (left, assigned) in active.iter_mut().zip(&self.seats) {
+            *left &= reached(&under, *assigned);
+        }
+        refuse_exclusions(&under, &self.pairs, &active)?;
+        self.active = active;
         Ok(0)
     }
 }
@@ -590,6 +749,15 @@ impl Plain {
 
     pub fn seat(&self, seat: u8) -> u64 {
         self.seats[seat as usize]
+    }
+
+    /// Under the lower role, the higher ones of its pairs.
+    pub fn pairs(&self, lower: u8) -> u64 {
+        self.pairs[lower as usize]
+    }
+
+    pub fn active(&self, seat: u8) -> u64 {
+        self.active[seat as usize]
     }
 
     pub fn edge_count(&self) -> u64 {
@@ -681,7 +849,7 @@ impl Plain {
         Ok(length as usize)
     }
 
-    /// Loads the image that ends the bytes; else 6, 7 or 8, and the state stays.
+    /// Loads the image that ends the bytes and clears what is not saved; else 6, 7 or 8, and the state stays.
     #[inline(never)]
     pub fn load(&mut self, bytes: &[u8]) -> Result<(), u8> {
         if bytes.len() < 16 {
