@@ -1,8 +1,9 @@
 //! The proved keeper as a value: a block of words, and the exported functions on it.
 
 use crate::exports::{
-    keeper_ask, keeper_call, keeper_count_yes, keeper_fresh, keeper_import, keeper_load,
-    keeper_may, keeper_save, WORDS,
+    keeper_active_roles, keeper_ask, keeper_ask_active, keeper_call, keeper_count_yes,
+    keeper_fresh, keeper_import, keeper_is_excluded, keeper_load, keeper_may, keeper_may_active,
+    keeper_save, WORDS,
 };
 use crate::side::Side;
 
@@ -36,6 +37,24 @@ impl Side for Kept {
     fn count_yes(&self, asks: &[u8]) -> u32 {
         let yeses = unsafe { keeper_count_yes(self.0.as_ptr(), WORDS, asks.as_ptr(), asks.len()) };
         yeses as u32
+    }
+
+    #[inline(always)]
+    fn may_active(&self, seat: u32, privilege: u32) -> bool {
+        unsafe { keeper_may_active(self.0.as_ptr(), WORDS, seat, privilege) }
+    }
+
+    #[inline(always)]
+    fn ask_active(&self, seat: u8, privilege: u8) -> u32 {
+        unsafe { keeper_ask_active(self.0.as_ptr(), WORDS, seat, privilege) }
+    }
+
+    fn active_roles(&self, seat: u8) -> u64 {
+        unsafe { keeper_active_roles(self.0.as_ptr(), WORDS, seat) }
+    }
+
+    fn is_excluded(&self, a: u8, b: u8) -> bool {
+        unsafe { keeper_is_excluded(self.0.as_ptr(), WORDS, a, b) }
     }
 
     #[inline(always)]

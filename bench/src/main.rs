@@ -3,7 +3,7 @@
 //! `bench [WORD]` prints the rows whose names have the word.
 
 use bench::plain::{Plain, LARGEST_IMAGE, RECORD_LENGTH};
-use bench::side::{loaded, saved, Side};
+use bench::side::{copied, loaded, saved, unsaved, Side};
 use bench::timing::{time_restored, time_steady, Timed};
 use bench::work::{
     answered, largest, middling, refused_sheet, shape, sheet, tape, Shape, REFUSED, SHEET_ROLES,
@@ -119,18 +119,19 @@ fn given<S: Side>(record: &[u8]) -> impl FnMut(&mut S) -> u32 + '_ {
     |side| side.call(black_box(record))
 }
 
-/// Both sides in the state. They give the same answer and leave the same image, or the run stops.
+/// Both sides in the state. They give the same answer and leave the same image, pairs and active roles, or the run
+/// stops.
 fn both<A: PartialEq + Debug>(
     name: &str,
     state: &Plain,
     keeper: &mut impl FnMut(&mut Keeper) -> A,
     plain: &mut impl FnMut(&mut Plain) -> A,
 ) -> (Keeper, Plain) {
-    let image = saved(state);
-    let sides: (Keeper, Plain) = (loaded(&image), loaded(&image));
+    let sides: (Keeper, Plain) = (copied(state), copied(state));
     let (mut first, mut second) = sides.clone();
     assert_eq!(keeper(&mut first), plain(&mut second), "{name}: answers");
     assert!(saved(&first) == saved(&second), "{name}: images");
+    assert!(unsaved(&first) == unsaved(&second), "{name}: sittings");
     sides
 }
 
