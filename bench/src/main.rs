@@ -6,8 +6,8 @@ use bench::plain::{Plain, LARGEST_IMAGE, RECORD_LENGTH};
 use bench::side::{copied, loaded, saved, unsaved, Side};
 use bench::timing::{time_restored, time_steady, Timed};
 use bench::work::{
-    answered, largest, middling, refused_sheet, shape, sheet, tape, Shape, REFUSED, SHEET_ROLES,
-    SPARE,
+    active_count, answered, largest, middling, pair_count, refused_sheet, shape, sheet, sitting,
+    switching_off, tape, Shape, ON_SITTING, REFUSED, SHEET_ROLES, SPARE,
 };
 use role_reference::generate::short;
 use std::fmt::{Debug, Display};
@@ -30,7 +30,7 @@ const MOST_OF_LAYERS: f64 = 2.0;
 const TAPE_RECORDS: usize = 1_000_000;
 const TAPE_RUNS: usize = 9;
 
-const NAMES: [&str; 12] = [
+const NAMES: [&str; 15] = [
     "add by place",
     "add by privileges",
     "remove role",
@@ -43,7 +43,15 @@ const NAMES: [&str; 12] = [
     "assign",
     "unassign",
     "ask",
+    "exclude",
+    "activate",
+    "deactivate",
 ];
+
+/// What a kind is called in the table.
+fn kind_name(kind: u8) -> String {
+    format!("kind {kind}, {}", NAMES[kind as usize - 1])
+}
 
 /// The table under way: the word that its rows have, the title of the rows to come, and how many rows there are and how
 /// many lie above what is allowed.
@@ -135,8 +143,8 @@ fn both<A: PartialEq + Debug>(
     sides
 }
 
-fn asks(table: &mut Table) {
-    table.title("ask, without a record");
+/// A chain of 62 roles, of which seats 1, 4 and 62 have 1, 4 and all.
+fn seated() -> Plain {
     let mut state = shape(Shape::Chain, 62);
     state.call(&short(10, 1, 9));
     for role in [3, 9, 20, 40] {
@@ -145,6 +153,12 @@ fn asks(table: &mut Table) {
     for role in 2..64 {
         state.call(&short(10, 62, role));
     }
+    state
+}
+
+fn asks(table: &mut Table) {
+    table.title("ask, without a record");
+    let state = seated();
     for (seat, privilege, name) in [
         (0, 5, "ask: seat without a role, no"),
         (1, 5, "ask: seat with 1 role, yes"),
@@ -175,6 +189,45 @@ fn asks(table: &mut Table) {
     }
 }
 
+/// The question, where every assigned role is active.
+fn questions(table: &mut Table) {
+    table.title("the question on active roles");
+    let mut state = seated();
+    for (seat, role) in (0..64).flat_map(|seat| (2..64).map(move |role| (seat, role))) {
+        if state.seat(seat) >> role & 1 == 1 {
+            state.call(&short(14, seat, role));
+        }
+    }
+    for (seat, privilege, name) in [
+        (0, 5, "question: seat without an active role, no"),
+        (1, 5, "question: seat with 1 active role, yes"),
+        (1, 40, "question: seat with 1 active role, no"),
+        (4, 30, "question: seat with 4 active roles, yes"),
+        (4, 50, "question: seat with 4 active roles, no"),
+        (62, 62, "question: seat with 62 active roles, no"),
+        (64, 0, "question: refused 2"),
+    ] {
+        table.steady(
+            name,
+            &state,
+            |side| Side::ask_active(side, black_box(seat), black_box(privilege)),
+            |side| Side::ask_active(side, black_box(seat), black_box(privilege)),
+        );
+    }
+    for (seat, privilege, name) in [
+        (1, 5, "may by active roles: 1 role, yes"),
+        (4, 50, "may by active roles: 4 roles, no"),
+        (256, 5, "may by active roles: seat 256, no"),
+    ] {
+        table.steady(
+            name,
+            &state,
+            |side| Side::may_active(side, black_box(seat), black_box(privilege)),
+            |side| Side::may_active(side, black_box(seat), black_box(privilege)),
+        );
+    }
+}
+
 /// Asks one after another in one call, the loop being the keeper's own; the time is that of all.
 fn asks_in_a_loop(table: &mut Table) {
     table.title("asks in the keeper's own loop");
@@ -194,7 +247,7 @@ fn calls(table: &mut Table) {
     let roles = state.roles().count_ones();
     table.title(&format!("records, on a middling state of {roles} roles"));
     for kind in 1..=12u8 {
-        let name = format!("kind {kind}, {}", NAMES[kind as usize - 1]);
+        let name = kind_name(kind);
         let record = answered(&state, kind, 0).expect("an accepted record is found");
         match kind {
             12 => table.keeping(&format!("{name}: yes"), &state, &record),
@@ -207,7 +260,35 @@ fn calls(table: &mut Table) {
     }
     table.keeping("kind 12, ask: refused 2", &state, &short(12, 64, 0));
     table.keeping("record of 31 bytes: refused 1", &state, &[1; 31]);
-    table.keeping("record of kind 13: refused 1", &state, &short(13, 2, 3));
+    table.keeping("record of kind 16: refused 1", &state, &short(16, 2, 3));
+}
+
+/// The kinds that pairs and active roles concern: the new ones, a grant, and an unassigning that switches off.
+fn calls_while_sitting(table: &mut Table) {
+    let state = sitting();
+    let (pairs, active) = (pair_count(&state), active_count(&state));
+    table.title(&format!(
+        "records, with {pairs} pairs and {active} active roles"
+    ));
+    for (kind, numbers) in ON_SITTING {
+        let name = kind_name(kind);
+        for number in numbers {
+            let record = answered(&state, kind, *number).expect("a record is found");
+            match number {
+                0 => table.changing(&format!("{name}, with pairs: accepted"), &state, &record),
+                _ => table.keeping(&format!("{name}: refused {number}"), &state, &record),
+            }
+        }
+    }
+    let record = switching_off(&state).expect("a record that switches off is found");
+    table.changing("kind 11, unassign: switching off", &state, &record);
+    let state = middling();
+    let record = answered(&state, 14, 0).expect("a record is found");
+    table.changing(
+        "kind 14, activate, without pairs: accepted",
+        &state,
+        &record,
+    );
 }
 
 fn grants(table: &mut Table) {
@@ -378,14 +459,14 @@ fn main() -> io::Result<()> {
         above: 0,
     };
     if cfg!(not(archive)) {
-        println!(
-            "target/staticlib/libkeeper.a is not there: plain Rust stands in for the keeper"
-        );
+        println!("target/staticlib/libkeeper.a is not there: plain Rust stands in for the keeper");
     }
     println!("medians with their quartiles; * marks a ratio above {MOST}, of layers to a chain above {MOST_OF_LAYERS}");
     asks(&mut table);
+    questions(&mut table);
     asks_in_a_loop(&mut table);
     calls(&mut table);
+    calls_while_sitting(&mut table);
     grants(&mut table);
     layers(&table);
     images(&mut table);

@@ -1,6 +1,6 @@
 //! The states and records that are timed, made by the plain keeper from fixed seeds: every run times the same.
 
-use crate::plain::{Plain, RECORD_LENGTH};
+use crate::plain::{Answer, Plain, RECORD_LENGTH};
 use role_reference::generate::{record, short};
 use role_reference::random::Random;
 use role_reference::reference::{members, one, Set};
@@ -35,12 +35,15 @@ pub fn shape(shape: Shape, count: u8) -> Plain {
     state
 }
 
-/// How many roles and seats random records name, and how many roles, conflicts and seats a middling state has.
+/// How many roles and seats random records name, and how many roles, conflicts and seats a middling state has, and how
+/// many pairs of roles and seats with active roles where it has any.
 const ROLES: u8 = 30;
 const SEATS: usize = 20;
 const MIDDLING_ROLES: u32 = 24;
 const MIDDLING_CONFLICTS: usize = 24;
 const MIDDLING_SEATS: usize = 16;
+const MIDDLING_PAIRS: usize = 12;
+const MIDDLING_ACTIVE: usize = 12;
 
 fn any(random: &mut Random, set: Set) -> u8 {
     random.pick(&members(set)).unwrap_or(2)
@@ -93,8 +96,26 @@ fn random_record(random: &mut Random, state: &Plain, kind: u8) -> Vec<u8> {
             let wanted = if kind == 10 { present & !roles } else { roles };
             short(kind, seat, mostly(random, wanted, present))
         }
-        _ => short(12, random.under(SEATS) as u8, number(random)),
+        12 => short(12, random.under(SEATS) as u8, number(random)),
+        13 => short(13, a, b),
+        _ => {
+            let seat = random.under(SEATS) as u8;
+            let active = state.active(seat);
+            let wanted = match kind {
+                14 => reached(state, state.seat(seat)) & !active,
+                _ => active,
+            };
+            short(kind, seat, mostly(random, wanted, present))
+        }
     }
+}
+
+/// The roles that some of these are or lie above.
+fn reached(state: &Plain, roles: Set) -> Set {
+    let within = |role: u8, top: u8| state.set(role) & !state.set(top) == 0;
+    let under = |role: &u8| members(roles).iter().any(|top| within(*role, *top));
+    let reached = members(state.roles()).into_iter().filter(under);
+    reached.fold(0, |set, role| set | one(role))
 }
 
 /// A role added by kind 1 or 2: now and then one that is present, or one with the set of another.
@@ -116,13 +137,24 @@ fn random_role(random: &mut Random, state: &Plain, kind: u8) -> Vec<u8> {
     record(2, role, 0, [set, 0, 0])
 }
 
-fn conflict_count(state: &Plain) -> usize {
-    let rows = (0..64).map(|lower| state.conflict(lower).count_ones() as usize);
-    rows.sum()
+/// How many members the 64 sets have together.
+fn member_count(sets: impl Fn(u8) -> Set) -> usize {
+    (0..64).map(|key| sets(key).count_ones() as usize).sum()
 }
 
-fn seat_count(state: &Plain) -> usize {
-    (0..64).filter(|seat| state.seat(*seat) != 0).count()
+/// How many of the 64 sets have members.
+fn set_count(sets: impl Fn(u8) -> Set) -> usize {
+    (0..64).filter(|key| sets(*key) != 0).count()
+}
+
+/// How many pairs of roles there are.
+pub fn pair_count(state: &Plain) -> usize {
+    member_count(|role| state.pairs(role))
+}
+
+/// How many active roles the seats have together.
+pub fn active_count(state: &Plain) -> usize {
+    member_count(|seat| state.active(seat))
 }
 
 /// Gives random records of the kinds in turn until there is enough.
@@ -143,10 +175,23 @@ pub fn middling() -> Plain {
         state.roles().count_ones() >= MIDDLING_ROLES
     });
     grow(&mut random, &mut state, &[8], |state| {
-        conflict_count(state) >= MIDDLING_CONFLICTS
+        member_count(|lower| state.conflict(lower)) >= MIDDLING_CONFLICTS
     });
     grow(&mut random, &mut state, &[10], |state| {
-        seat_count(state) >= MIDDLING_SEATS
+        set_count(|seat| state.seat(seat)) >= MIDDLING_SEATS
+    });
+    state
+}
+
+/// The middling state with 12 pairs of roles, and active roles for 12 of its seats.
+pub fn sitting() -> Plain {
+    let mut random = Random::new(3);
+    let mut state = middling();
+    grow(&mut random, &mut state, &[13], |state| {
+        pair_count(state) >= MIDDLING_PAIRS
+    });
+    grow(&mut random, &mut state, &[14], |state| {
+        set_count(|seat| state.active(seat)) >= MIDDLING_ACTIVE
     });
     state
 }
@@ -190,17 +235,39 @@ pub const REFUSED: [(u8, u8); 20] = [
     (11, 23),
 ];
 
+/// The kinds that are timed on the state with pairs and active roles, each with its refusals there: 0 is accepted.
+pub const ON_SITTING: [(u8, &[u8]); 4] = [
+    (4, &[0, 35]),
+    (13, &[0, 22, 35]),
+    (14, &[0, 34, 35]),
+    (15, &[0, 23]),
+];
+
+/// A record of the kind whose answer, and the state that it leaves, are as wanted.
+fn found(state: &Plain, kind: u8, fits: impl Fn(Answer, &Plain) -> bool) -> Option<Vec<u8>> {
+    let mut random = Random::new(kind as u64);
+    let records = (0..200_000).map(|_| random_record(&mut random, state, kind));
+    let mut fitting = records.filter(|record| {
+        let mut after = state.clone();
+        let answer = after.call(record);
+        fits(answer, &after)
+    });
+    fitting.next()
+}
+
 /// A record of the kind to which the state answers with this refusal, or 0 for accepted.
 pub fn answered(state: &Plain, kind: u8, number: u8) -> Option<Vec<u8>> {
-    let mut random = Random::new(kind as u64);
-    let fits = |record: &Vec<u8>| {
-        let answer = state.clone().call(record);
+    found(state, kind, |answer, _| {
         let yes = kind != 12 || answer.place == 1;
         answer.number == number && yes
-    };
-    (0..200_000)
-        .map(|_| random_record(&mut random, state, kind))
-        .find(fits)
+    })
+}
+
+/// A record of kind 11 that switches an active role off.
+pub fn switching_off(state: &Plain) -> Option<Vec<u8>> {
+    found(state, 11, |answer, after| {
+        answer.number == 0 && active_count(after) < active_count(state)
+    })
 }
 
 /// How many roles the timed sheets have.
@@ -231,8 +298,8 @@ pub fn refused_sheet() -> Vec<u8> {
     text
 }
 
-/// How often each of the kinds 1 to 12 stands on a tape, and damaged records.
-const WEIGHTS: [usize; 13] = [8, 8, 9, 11, 10, 8, 8, 5, 5, 7, 7, 12, 2];
+/// How often each of the kinds 1 to 15 stands on a tape, and damaged records.
+const WEIGHTS: [usize; 16] = [8, 8, 9, 11, 10, 8, 8, 5, 5, 7, 7, 12, 2, 5, 3, 2];
 
 fn tape_record(random: &mut Random, state: &Plain) -> Vec<u8> {
     let mut left = random.under(WEIGHTS.iter().sum());
@@ -241,7 +308,7 @@ fn tape_record(random: &mut Random, state: &Plain) -> Vec<u8> {
         left -= WEIGHTS[kind as usize - 1];
         kind += 1;
     }
-    if kind > 12 {
+    if kind > 15 {
         return random.bytes(RECORD_LENGTH);
     }
     let mut record = random_record(random, state, kind);
