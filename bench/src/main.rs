@@ -409,27 +409,32 @@ fn run_time(path: &Path, tape: &Path) -> io::Result<f64> {
     Ok((programs_time()? - before) as f64 / TAPE_RECORDS as f64)
 }
 
-fn programs(table: &mut Table) -> io::Result<()> {
-    let name = "benchtape beside plaintape, for a record";
-    if !table.wants(name) {
+/// The two programs: benchtape where it is built, and plaintape.
+fn tape_programs() -> io::Result<(PathBuf, PathBuf)> {
+    let proved = Path::new(env!("CARGO_MANIFEST_DIR")).join("../target/bin/benchtape");
+    let plain: PathBuf = std::env::current_exe()?.with_file_name("plaintape");
+    if proved.exists() {
+        return Ok((proved, plain));
+    }
+    println!("target/bin/benchtape is not there: plaintape stands in for it");
+    Ok((plain.clone(), plain))
+}
+
+/// Benchtape beside plaintape on a tape of the kinds up to the last.
+fn programs(table: &mut Table, last: usize) -> io::Result<()> {
+    let name = format!("benchtape, for a record of kinds 1 to {last}");
+    if !table.wants(&name) {
         return Ok(());
     }
-    let (bytes, accepted) = tape(TAPE_RECORDS);
+    let (bytes, accepted) = tape(TAPE_RECORDS, last);
     let share = 100.0 * accepted as f64 / TAPE_RECORDS as f64;
     table.title(&format!(
         "a tape of a million records, {share:.0} % accepted"
     ));
     let folder = Path::new(env!("CARGO_MANIFEST_DIR"));
-    let tape = folder.join("target/mixed.tape");
+    let tape = folder.join(format!("target/mixed-{last}.tape"));
     std::fs::write(&tape, bytes)?;
-    let proved = folder.join("../target/bin/benchtape");
-    let plain: PathBuf = std::env::current_exe()?.with_file_name("plaintape");
-    let keeper = if proved.exists() {
-        proved
-    } else {
-        println!("target/bin/benchtape is not there: plaintape stands in for it");
-        plain.clone()
-    };
+    let (keeper, plain) = tape_programs()?;
     let (first, second) = (lines(&keeper, &tape)?, lines(&plain, &tape)?);
     assert!(first == second, "the programs write the same lines");
     assert_eq!(
@@ -441,7 +446,7 @@ fn programs(table: &mut Table) -> io::Result<()> {
         || run_time(&keeper, &tape).expect("the program runs"),
         || run_time(&plain, &tape).expect("the program runs"),
     );
-    table.row(name, &timed);
+    table.row(&name, &timed);
     println!(
         "the tape has {} bytes: {}",
         TAPE_RECORDS * RECORD_LENGTH,
@@ -471,7 +476,8 @@ fn main() -> io::Result<()> {
     layers(&table);
     images(&mut table);
     sheets(&mut table);
-    programs(&mut table)?;
+    programs(&mut table, 12)?;
+    programs(&mut table, 15)?;
     println!("\n{} of {} rows above {MOST}", table.above, table.rows);
     Ok(())
 }

@@ -41,9 +41,9 @@ const ROLES: u8 = 30;
 const SEATS: usize = 20;
 const MIDDLING_ROLES: u32 = 24;
 const MIDDLING_CONFLICTS: usize = 24;
-const MIDDLING_SEATS: usize = 16;
+const MIDDLING_SEATS: u32 = 16;
 const MIDDLING_PAIRS: usize = 12;
-const MIDDLING_ACTIVE: usize = 12;
+const MIDDLING_ACTIVE: u32 = 12;
 
 fn any(random: &mut Random, set: Set) -> u8 {
     random.pick(&members(set)).unwrap_or(2)
@@ -85,8 +85,7 @@ fn random_record(random: &mut Random, state: &Plain, kind: u8) -> Vec<u8> {
         7 => short(7, mostly(random, state.juniors(b) & present, present), b),
         8 => short(8, number(random), number(random)),
         9 => {
-            let lower = (0..64).filter(|lower| state.conflict(*lower) != 0);
-            let lower = lower.fold(0, |set, lower| set | one(lower));
+            let lower = keys(|lower| state.conflict(lower));
             let a = mostly(random, lower, u64::MAX);
             short(9, a, mostly(random, state.conflict(a), u64::MAX))
         }
@@ -97,6 +96,11 @@ fn random_record(random: &mut Random, state: &Plain, kind: u8) -> Vec<u8> {
             short(kind, seat, mostly(random, wanted, present))
         }
         12 => short(12, random.under(SEATS) as u8, number(random)),
+        // Nothing lifts a pair but a removal: beyond so many, those that are there are offered.
+        13 if pair_count(state) > MIDDLING_PAIRS => {
+            let lower = any(random, keys(|role| state.pairs(role)));
+            short(13, lower, any(random, state.pairs(lower)))
+        }
         13 => short(13, a, b),
         _ => {
             let seat = random.under(SEATS) as u8;
@@ -142,9 +146,9 @@ fn member_count(sets: impl Fn(u8) -> Set) -> usize {
     (0..64).map(|key| sets(key).count_ones() as usize).sum()
 }
 
-/// How many of the 64 sets have members.
-fn set_count(sets: impl Fn(u8) -> Set) -> usize {
-    (0..64).filter(|key| sets(*key) != 0).count()
+/// The numbers whose sets have members.
+fn keys(sets: impl Fn(u8) -> Set) -> Set {
+    (0..64).fold(0, |keys, key| keys | one(key) * (sets(key) != 0) as Set)
 }
 
 /// How many pairs of roles there are.
@@ -178,7 +182,7 @@ pub fn middling() -> Plain {
         member_count(|lower| state.conflict(lower)) >= MIDDLING_CONFLICTS
     });
     grow(&mut random, &mut state, &[10], |state| {
-        set_count(|seat| state.seat(seat)) >= MIDDLING_SEATS
+        keys(|seat| state.seat(seat)).count_ones() >= MIDDLING_SEATS
     });
     state
 }
@@ -191,7 +195,7 @@ pub fn sitting() -> Plain {
         pair_count(state) >= MIDDLING_PAIRS
     });
     grow(&mut random, &mut state, &[14], |state| {
-        set_count(|seat| state.active(seat)) >= MIDDLING_ACTIVE
+        keys(|seat| state.active(seat)).count_ones() >= MIDDLING_ACTIVE
     });
     state
 }
@@ -298,34 +302,37 @@ pub fn refused_sheet() -> Vec<u8> {
     text
 }
 
-/// How often each of the kinds 1 to 15 stands on a tape, and damaged records.
-const WEIGHTS: [usize; 16] = [8, 8, 9, 11, 10, 8, 8, 5, 5, 7, 7, 12, 2, 5, 3, 2];
+/// How often each of the kinds 1 to 15 stands on a tape, and how often damaged records do.
+const WEIGHTS: [usize; 15] = [8, 8, 9, 11, 10, 8, 8, 5, 5, 7, 7, 12, 2, 5, 3];
+const DAMAGED: usize = 2;
 
-fn tape_record(random: &mut Random, state: &Plain) -> Vec<u8> {
-    let mut left = random.under(WEIGHTS.iter().sum());
-    let mut kind = 1;
-    while left >= WEIGHTS[kind as usize - 1] {
-        left -= WEIGHTS[kind as usize - 1];
-        kind += 1;
-    }
-    if kind > 15 {
+/// A record of one of the kinds up to the last, or a damaged one.
+fn tape_record(random: &mut Random, state: &Plain, last: usize) -> Vec<u8> {
+    let kinds: usize = WEIGHTS[..last].iter().sum();
+    let mut left = random.under(kinds + DAMAGED);
+    if left >= kinds {
         return random.bytes(RECORD_LENGTH);
     }
-    let mut record = random_record(random, state, kind);
+    let mut kind = 1;
+    while left >= WEIGHTS[kind - 1] {
+        left -= WEIGHTS[kind - 1];
+        kind += 1;
+    }
+    let mut record = random_record(random, state, kind as u8);
     if random.one_in(20) {
         record[1] = random.byte();
     }
     record
 }
 
-/// A tape of mixed records, and how many of them are accepted.
-pub fn tape(count: usize) -> (Vec<u8>, usize) {
+/// A tape of mixed records of the kinds up to the last, and how many of them are accepted.
+pub fn tape(count: usize, last: usize) -> (Vec<u8>, usize) {
     let mut random = Random::new(7);
     let mut state = Plain::fresh();
     let mut bytes = Vec::with_capacity(count * RECORD_LENGTH);
     let mut accepted = 0;
     for _ in 0..count {
-        let record = tape_record(&mut random, &state);
+        let record = tape_record(&mut random, &state, last);
         accepted += (state.call(&record).number == 0) as usize;
         bytes.extend(record);
     }

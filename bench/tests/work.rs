@@ -1,8 +1,11 @@
 //! What is timed is what it is called, and the plain tape program writes document 01's lines.
 
 use bench::plain::{Plain, LARGEST_IMAGE};
-use bench::side::saved;
-use bench::work::{answered, largest, middling, shape, tape, Shape, REFUSED};
+use bench::side::{copied, saved};
+use bench::work::{
+    active_count, answered, largest, middling, pair_count, shape, sitting, switching_off, tape,
+    Shape, ON_SITTING, REFUSED,
+};
 use role_reference::reference::Reference;
 use std::io::Write;
 use std::process::{Command, Stdio};
@@ -38,6 +41,35 @@ fn every_timed_record_is_found() {
     }
 }
 
+#[test]
+fn every_record_timed_with_pairs_is_found() {
+    let state = sitting();
+    for (kind, numbers) in ON_SITTING {
+        for number in numbers {
+            let record = answered(&state, kind, *number);
+            assert!(record.is_some(), "{kind}: {number}");
+        }
+    }
+    assert!(switching_off(&state).is_some());
+    assert!(answered(&middling(), 14, 0).is_some());
+}
+
+#[test]
+fn sitting_adds_pairs_and_active_roles_alone() {
+    let (state, before) = (sitting(), middling());
+    assert_eq!((pair_count(&before), active_count(&before)), (0, 0));
+    assert_eq!(pair_count(&state), 12);
+    let seats = (0..64).filter(|seat| state.active(*seat) != 0);
+    assert_eq!(seats.count(), 12);
+    assert!(saved(&state) == saved(&before));
+}
+
+#[test]
+fn a_copy_is_the_whole_state() {
+    let state = sitting();
+    assert!(copied::<Plain>(&state) == state);
+}
+
 fn plaintape(bytes: &[u8]) -> String {
     let mut program = Command::new(env!("CARGO_BIN_EXE_plaintape"))
         .stdin(Stdio::piped())
@@ -53,7 +85,7 @@ fn plaintape(bytes: &[u8]) -> String {
 
 #[test]
 fn plaintape_writes_the_lines() {
-    let (bytes, _) = tape(1024);
+    let (bytes, _) = tape(1024, 15);
     for length in [0, 1, 32, 33, 1000 * 32, 1024 * 32 - 1, 1024 * 32] {
         let part = &bytes[..length];
         assert!(plaintape(part) == Reference::tape(part), "{length} bytes");
