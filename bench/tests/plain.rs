@@ -1,6 +1,7 @@
-//! The plain keeper is document 01's: the driver of `tests/reference` finds no difference.
+//! The plain keeper is that of documents 01 and 02: the driver of `tests/reference` finds no difference.
 
-use bench::plain::{Plain, LARGEST_IMAGE};
+use bench::plain::{Answer, Plain, LARGEST_IMAGE};
+use bench::work::sitting;
 use role_reference::compare::{run, Keeper};
 use role_reference::random::printed_seed;
 
@@ -54,12 +55,25 @@ impl Keeper for Compared {
         self.0.seat(seat)
     }
 
+    fn pairs(&self, role: u8) -> u64 {
+        self.0.pairs(role)
+    }
+
+    fn active(&self, seat: u8) -> u64 {
+        self.0.active(seat)
+    }
+
     fn edge_count(&self) -> u64 {
         self.0.edge_count()
     }
 
     fn ask(&self, seat: u8, privilege: u8) -> (u8, u8) {
         let answer = self.0.ask(seat, privilege);
+        (answer.number, answer.place)
+    }
+
+    fn question(&self, seat: u8, privilege: u8) -> (u8, u8) {
+        let answer = self.0.ask_active(seat, privilege);
         (answer.number, answer.place)
     }
 
@@ -77,4 +91,24 @@ fn plain_keeper_agrees_with_the_reference() {
     let counts = counts.unwrap_or_else(|failure| panic!("{failure}"));
     println!("{counts}");
     assert!(counts.calls >= CALLS && counts.images >= IMAGES);
+}
+
+#[test]
+fn may_is_the_yes_of_an_ask() {
+    const YES: Answer = Answer {
+        number: 0,
+        place: 1,
+    };
+    let state = sitting();
+    for (seat, privilege) in (0..300).flat_map(|seat| (0..300).map(move |other| (seat, other))) {
+        let (may, may_active) = (
+            state.may(seat, privilege),
+            state.may_active(seat, privilege),
+        );
+        let (ask, ask_active) = match (u8::try_from(seat), u8::try_from(privilege)) {
+            (Ok(a), Ok(b)) => (state.ask(a, b) == YES, state.ask_active(a, b) == YES),
+            _ => (false, false),
+        };
+        assert_eq!((may, may_active), (ask, ask_active), "{seat}, {privilege}");
+    }
 }

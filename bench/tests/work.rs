@@ -70,6 +70,22 @@ fn a_copy_is_the_whole_state() {
     assert!(copied::<Plain>(&state) == state);
 }
 
+#[cfg(archive)]
+#[test]
+fn the_keeper_answers_by_the_same_active_roles() {
+    use bench::keeper::Kept;
+    use bench::side::{unsaved, Side};
+    let state = sitting();
+    let kept: Kept = copied(&state);
+    assert!(unsaved(&kept) == unsaved(&state));
+    for (seat, privilege) in (0..=64).flat_map(|seat| (0..=64).map(move |other| (seat, other))) {
+        let answer = Side::ask_active(&state, seat, privilege);
+        assert_eq!(kept.ask_active(seat, privilege), answer);
+        let may = kept.may_active(seat.into(), privilege.into());
+        assert_eq!(may, answer == 1, "{seat}, {privilege}");
+    }
+}
+
 fn plaintape(bytes: &[u8]) -> String {
     let mut program = Command::new(env!("CARGO_BIN_EXE_plaintape"))
         .stdin(Stdio::piped())
