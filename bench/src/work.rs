@@ -148,7 +148,8 @@ fn member_count(sets: impl Fn(u8) -> Set) -> usize {
 
 /// The numbers whose sets have members.
 fn keys(sets: impl Fn(u8) -> Set) -> Set {
-    (0..64).fold(0, |keys, key| keys | one(key) * (sets(key) != 0) as Set)
+    let numbers = (0..64).filter(|key| sets(*key) != 0);
+    numbers.fold(0, |keys, key| keys | one(key))
 }
 
 /// How many pairs of roles there are.
