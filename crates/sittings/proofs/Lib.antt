@@ -11,3 +11,5 @@ pub mod Question
 pub mod ListTheorem
 -- ---- tapes
 pub mod SittingCells
+-- ---- tables and loops over them
+pub mod JoinedTables

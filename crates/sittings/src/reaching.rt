@@ -1,7 +1,6 @@
 // What roles reach: themselves and what lies below them.
 ghost use mathlib.Core.Path.{_≡_};
 ghost use mathlib.Core.Bool.{_&&_};
-ghost use mathlib.Core.List.{List, []};
 ghost use Rattle.sets.specs.Sets.{member, collect};
 ghost use Rattle.graph.specs.Tables.{at, table};
 ghost use Rattle.graph.specs.Graph.{role-count};
