@@ -13,3 +13,6 @@ pub mod ListTheorem
 pub mod SittingCells
 -- ---- tables and loops over them
 pub mod JoinedTables
+pub mod Scans
+-- ---- what roles reach, and what excludes
+pub mod Reached

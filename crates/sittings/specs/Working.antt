@@ -8,6 +8,7 @@ use Rattle.sets.specs.Sets.{member, union, intersection, gather}
 use Rattle.graph.specs.Tables.{at, table}
 use Rattle.graph.specs.Graph.{role-count}
 use Rattle.graph.specs.Refusing.{verdict}
+use Rattle.graph.specs.Searching.{Found, lowest-found}
 use Rattle.seats.specs.Seats.{State, seat-count}
 use Rattle.seats.specs.Calls.{Answer, is-refusal, settle}
 use Rattle.seats.specs.Calls as base
@@ -37,6 +38,11 @@ together-by lower used p q = (member p (at lower q) || member q (at lower p)) ||
 -- Some role of the row is together with p.
 abbrev pub meets-by : List ℕ → List ℕ → ℕ → ℕ → Bool
 meets-by lower used p row = any role-count (λ q. member q row && together-by lower used p q)
+
+-- The lower role of the lowest of these pairs that is together with these roles active, by the table of the roles below each.
+abbrev pub clash-by : List ℕ → List ℕ → List ℕ → Found
+clash-by lower pairs active =
+    lowest-found role-count (λ p. meets-by lower (table seat-count (λ i. reached-by lower (at active i))) p (at pairs p))
 
 -- What the sitting makes of a call of kinds 1 to 12 that document 01's keeper answers with a, leaving h.
 unfoldable pub followed : Sitting → base.Call → Answer × State → Answer × Sitting

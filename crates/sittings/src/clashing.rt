@@ -1,16 +1,15 @@
 // The search behind refusal 35: the lowest role that is the lower of an excluding pair that is together.
 ghost use mathlib.Core.Path.{_≡_};
 ghost use mathlib.Core.List.{[]};
-ghost use Rattle.graph.specs.Tables.{at, table};
+ghost use Rattle.graph.specs.Tables.{at};
 ghost use Rattle.graph.specs.Graph.{role-count};
 ghost use Rattle.graph.specs.Searching.{lowest-found};
 ghost use Rattle.graph.specs.Reading.{read-found};
-ghost use Rattle.seats.specs.Seats.{seat-count};
 ghost use Rattle.seats.specs.Records.{all-empty};
 ghost use Rattle.seats.specs.Reading.{state-of};
 ghost use Rattle.sittings.specs.Sittings.{clashing};
 ghost use Rattle.sittings.specs.Reading.{sitting-of};
-ghost use Rattle.sittings.specs.Working.{reached-by, joined-at, shared-by, together-by, meets-by};
+ghost use Rattle.sittings.specs.Working.{joined-at, shared-by, together-by, meets-by, clash-by};
 use crate::reaching::all_reached;
 use graph::Found;
 use graph::drawing;
@@ -103,7 +102,7 @@ pub(crate) fn clash_by<'a>(
     active: &'a [u64],
     offer: Offer,
 ) -> Found
-    ensures { λ v. ⌜ read-found v ≡ lowest-found role-count (λ p. meets-by (now (lower .entry)) (table seat-count (λ i. reached-by (now (lower .entry)) (at (joined-at (now (active .entry)) (offer .seat) (offer .roles)) i))) p (at (joined-at (now (pairs .entry)) (offer .lower) (offer .higher)) p)) ⌝ }
+    ensures { λ v. ⌜ read-found v ≡ clash-by (now (lower .entry)) (joined-at (now (pairs .entry)) (offer .lower) (offer .higher)) (joined-at (now (active .entry)) (offer .seat) (offer .roles)) ⌝ }
 {
     let used = all_reached(lower, active, offer.seat, offer.roles);
     lowest_clash(lower, &used, pairs, offer.lower, offer.higher)
