@@ -16,3 +16,4 @@ pub mod JoinedTables
 pub mod Scans
 -- ---- what roles reach, and what excludes
 pub mod Reached
+pub mod ReachedPrivileges
