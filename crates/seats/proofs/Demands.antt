@@ -97,11 +97,11 @@ reached-keeps d r =
     subst Invariant (sym (k .same-end)) (k .definitions .invariant)
 
 -- ---- accepted calls
-changed-by : (s : seats.State) (c : Change) → ChangedBy c s (after s (change c))
+pub changed-by : (s : seats.State) (c : Change) → ChangedBy c s (after s (change c))
 unfolding after with-graph changed redraw edge direct below present ordinary effective
 changed-by s c = record { roles = refl; sets = refl; redrawn = refl; conflicts = refl; seats = refl }
 
-says : (s : seats.State) (c : Call) → Invariant s → Passes (checks s c (after s c)) → Says c s (after s c)
+pub says : (s : seats.State) (c : Call) → Invariant s → Passes (checks s c (after s c)) → Says c s (after s c)
 unfolding after with-graph with-conflicts with-seats
 says s c v t = record {
   present = λ r. call-ordinary r s c t;
@@ -119,7 +119,7 @@ says s c v t = record {
     stays (ask a b) f = (refl, refl)
 
 -- The sets after an accepted change close the edited drawing, and no others do.
-closes : (s t : seats.State) (c : Change) → Laid (edit c (redraw (s .graph))) → t ≡ after s (change c)
+pub closes : (s t : seats.State) (c : Change) → Laid (edit c (redraw (s .graph))) → t ≡ after s (change c)
     → Closes (edit c (redraw (s .graph))) (effective (t .graph))
     × ((F : ℕ → ℕ) → Closes (edit c (redraw (s .graph))) F → (r : ℕ) → r < role-count → effective (t .graph) r ≡ F r)
 unfolding after with-graph changed effective
