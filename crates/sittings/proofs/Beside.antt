@@ -7,10 +7,9 @@ use mathlib.Core.List.{List, [], _∷_, _++_}
 use Prim.Native.Nat.{ℕ}
 use native.Mathlib.Omega.{arith}
 use Rattle.sets.proofs.Tests.{fails}
-use Rattle.graph.specs.Refusing.{Check, Verdict, passed, verdict, Passes}
+use Rattle.graph.specs.Refusing.{Check, Verdict, verdict, Passes}
 use Rattle.graph.specs.Refusing as refusing
 use Rattle.graph.proofs.Refusals.{parts}
-use Rattle.seats.specs.Seats.{State}
 use Rattle.seats.specs.Calls.{Answer, refused, settle, is-refusal}
 use Rattle.seats.specs.Calls as base
 use Rattle.seats.proofs.JudgedCalls.{settle-refused}

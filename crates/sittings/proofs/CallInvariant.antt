@@ -2,7 +2,7 @@
 -- Assumes nothing.
 use mathlib.Core.Path.{_≡_, refl, sym, ap, _∙_, subst}
 use mathlib.Core.Bool.{Bool, not, _&&_, _||_}
-use mathlib.Core.Logic.{_≢_, inl, inr}
+use mathlib.Core.Logic.{inl, inr}
 use mathlib.Core.List.{List, _++_}
 use Prim.Native.Nat.{ℕ, _<_}
 use native.Mathlib.Omega.{arith}
@@ -33,7 +33,7 @@ use Rattle.seats.specs.Invariants as base-invariants
 use Rattle.seats.proofs.CallInvariant as base-keeping
 use Rattle.seats.proofs.FreshInvariant.{empty-table}
 use Rattle.seats.proofs.History.{call-ordinary}
-use Rattle.sittings.specs.Sittings.{Sitting, begun, is-active, reaches, covered, together, clashing, still-covered, still-active}
+use Rattle.sittings.specs.Sittings.{Sitting, begun, is-active, covered, together, clashing, still-active}
 use Rattle.sittings.specs.Calls.{Call, call, exclude, activate, deactivate, drawn-checks, checks, pairs-changed, pairs-after, active-after, after}
 use Rattle.sittings.specs.Invariants.{Invariant}
 use Rattle.sittings.specs.Reading.{sitting-of}

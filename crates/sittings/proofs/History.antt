@@ -3,7 +3,7 @@
 use mathlib.Core.Path.{_≡_, refl, sym, ap, _∙_}
 use mathlib.Core.Bool.{Bool, true, false, not, _&&_, _||_}
 use mathlib.Core.List.{List}
-use Prim.Native.Nat.{ℕ, min, max, _<_}
+use Prim.Native.Nat.{ℕ, min, max}
 use native.Mathlib.Decide.{decLt}
 use native.Mathlib.Omega.{arith}
 use lib.Dec.{T, eqb}
@@ -24,8 +24,8 @@ use Rattle.seats.specs.Seats.{State, seat-count}
 use Rattle.seats.specs.Calls.{Answer, is-refusal}
 use Rattle.seats.specs.Calls as base
 use Rattle.sittings.specs.Sittings.{Sitting, excluded, is-active, covered}
-use Rattle.sittings.specs.Calls.{Call, call, exclude, activate, deactivate, checks, without-role, pairs-changed, pairs-after, after}
-use Rattle.sittings.specs.Records.{Decoded, well-formed, decode, perform-decoded, step}
+use Rattle.sittings.specs.Calls.{Call, call, exclude, activate, deactivate, checks, pairs-changed, pairs-after, after}
+use Rattle.sittings.specs.Records.{Decoded, decode, perform-decoded, step}
 use Rattle.sittings.specs.Lists.{answers, end, without-refused, exclusion-change, exclusion-call, exclusion, activity, by-call, history, history-in}
 use Rattle.sittings.specs.Invariants.{Invariant}
 use Rattle.sittings.proofs.Settling.{refused-leaves, Carries, accepted-carries}

@@ -17,3 +17,7 @@ pub mod Scans
 -- ---- what roles reach, and what excludes
 pub mod Reached
 pub mod ReachedPrivileges
+pub mod LoadOver
+pub mod KeeperTheorem
+pub mod RecordVerdict
+pub mod Demands

@@ -7,8 +7,6 @@ use mathlib.Core.List.{List, map}
 use Prim.Native.Nat.{ℕ, _<_}
 use native.Mathlib.Omega.{arith}
 use lib.Dec.{T, leb, eqb}
-use Rattle.sets.specs.Counting.{any}
-use Rattle.sets.specs.Sets.{member}
 use Rattle.sets.proofs.Tests.{join, either, or-left, or-right, equal-test, test-equal}
 use Rattle.sets.proofs.Counting.{some-any}
 use Rattle.sets.proofs.Laws.{member-lt}
@@ -34,7 +32,7 @@ use Rattle.seats.specs.Lists.{Edge}
 use Rattle.seats.specs.ListTheorem.{Saying, Assigned, ask-record, StateTheorem}
 use Rattle.seats.specs.ListTheorem as base-theorem
 use Rattle.seats.proofs.ListTheorem as base-proof
-use Rattle.sittings.specs.Sittings.{Sitting, begun, excluded, is-active, covered, in-use, together}
+use Rattle.sittings.specs.Sittings.{Sitting, excluded, is-active, covered, in-use, together}
 use Rattle.sittings.specs.Calls.{call, drawn-checks, perform, ask-active}
 use Rattle.sittings.specs.Records.{Decoded, malformed, well-formed, own-kind, own, decoded, decode, perform-decoded, step}
 use Rattle.sittings.specs.Lists.{answers, end, without-refused}

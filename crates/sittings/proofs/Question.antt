@@ -1,9 +1,8 @@
 -- What the question answers: it is judged by the two numbers alone, and says yes exactly when the privilege is direct in an active role of the seat, or in a role from which a path leads to one.
 -- Assumes nothing.
 use mathlib.Core.Path.{_≡_, refl, sym, ap, _∙_, subst}
-use mathlib.Core.Bool.{Bool, true, false, _&&_}
+use mathlib.Core.Bool.{true, _&&_}
 use mathlib.Core.Logic.{_↔_, inl, inr}
-use mathlib.Core.List.{List, [], _∷_}
 use Prim.Native.Nat.{ℕ, _<_}
 use native.Mathlib.Omega.{arith}
 use lib.Dec.{T, leb, leb→le, eqb, eqb-refl}
@@ -12,14 +11,16 @@ use Rattle.sets.specs.Sets.{member}
 use Rattle.sets.proofs.Tests.{both, join, either, or-left, passes, test-equal}
 use Rattle.sets.proofs.Counting.{any-some, some-any}
 use Rattle.sets.proofs.Laws.{member-lt}
+use Rattle.lists.specs.Settling as settling
 use Rattle.graph.specs.Tables.{at}
 use Rattle.graph.specs.Graph.{role-count, privilege-count, effective}
 use Rattle.graph.specs.Drawing.{below}
-use Rattle.graph.specs.Refusing.{verdict, at-or-below, Passes}
+use Rattle.graph.specs.Refusing.{Verdict, passed, verdict, at-or-below, Passes}
+use Rattle.graph.specs.Refusing as refusing
 use Rattle.graph.proofs.Tables.{entry-in}
 use Rattle.graph.proofs.DrawnSets.{Reached, effective-iff, effective-lt, below-member}
 use Rattle.seats.specs.Seats.{seat-count}
-use Rattle.seats.specs.Calls.{Answer, answered, settle, is-refusal}
+use Rattle.seats.specs.Calls.{Answer, answered, judged, settle, is-refusal}
 use Rattle.seats.proofs.FirstChecks.{Settles, settles}
 use Rattle.sittings.specs.Sittings.{Sitting, is-active, in-use, may-use-active}
 use Rattle.sittings.specs.Calls.{ask-active}
@@ -28,29 +29,31 @@ use Rattle.sittings.specs.Demands.{question-checks}
 use Rattle.sittings.proofs.Reaches.{in-reach, reach-in}
 
 module _ (z : Sitting) (i p : ℕ) where
-  -- The question is judged by its two checks.
-  pub question-settles : (y : Answer × Sitting) → y ≡ settle (verdict (question-checks i p)) (answered (may-use-active z i p)) z z → Settles (question-checks i p) (answered (may-use-active z i p)) z z y
-  unfolding is-refusal
-  question-settles y e = settles (question-checks i p) (answered (may-use-active z i p)) refl z z y e
-
-  judged : Settles (question-checks i p) (answered (may-use-active z i p)) z z (settle (verdict (question-checks i p)) (answered (may-use-active z i p)) z z)
-  judged = question-settles _ refl
+  -- The question is judged by its two checks, and changes nothing.
+  pub question-settles : (a : Answer) → a ≡ ask-active z i p → Settles (question-checks i p) (answered (may-use-active z i p)) z z (a, z)
+  unfolding ask-active is-refusal settle judged settling.settle
+  question-settles a e =
+      let yes-or-no = answered (may-use-active z i p) in
+      settles (question-checks i p) yes-or-no refl z z (a, z) (ap (λ (x : Answer). (x, z)) e ∙ unmoved (verdict (question-checks i p)))
+    where
+      unmoved : (v : Verdict) → (settle v (answered (may-use-active z i p)) z z .0, z) ≡ settle v (answered (may-use-active z i p)) z z
+      unmoved passed = refl
+      unmoved (refusing.refused n k) = refl
 
   -- A yes comes only where the active roles reach a role with the privilege.
   yes-means : ask-active z i p ≡ answered true → T (may-use-active z i p)
-  unfolding ask-active is-refusal
-  yes-means e =
-      let q = ap (λ (y : Answer × Sitting). y .0) (judged .accepted-gives (ap is-refusal e)) in
-      subst T (sym (same (sym q ∙ e))) tt
+  unfolding is-refusal
+  yes-means e = subst T (sym (same (sym (ap (λ (y : Answer × Sitting). y .0) (question-settles (answered true) (sym e) .accepted-gives refl))))) tt
     where
       same : answered (may-use-active z i p) ≡ answered true → may-use-active z i p ≡ true
       same w = cc
 
   -- Where they do, and both numbers are of a seat and a privilege, the answer is yes.
   means-yes : i < seat-count → p < privilege-count → T (may-use-active z i p) → ask-active z i p ≡ answered true
-  unfolding ask-active Passes
+  unfolding Passes
   means-yes li lp t =
-      ap (λ (y : Answer × Sitting). y .0) (judged .accepted-gives (judged .accepted-iff .1 (known seat-count i li, (known privilege-count p lp, tt))))
+      let w = question-settles (ask-active z i p) refl in
+      ap (λ (y : Answer × Sitting). y .0) (w .accepted-gives (w .accepted-iff .1 (known seat-count i li, (known privilege-count p lp, tt))))
       ∙ ap answered (passes (may-use-active z i p) t)
     where
       known : (n a : ℕ) → a < n → T (leb n a) → ⊥

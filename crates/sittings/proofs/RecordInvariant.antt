@@ -13,7 +13,7 @@ use Rattle.seats.specs.Records.{record-length, fields, unused}
 use Rattle.seats.specs.Records as base
 use Rattle.seats.proofs.RecordInvariant as base-records
 use Rattle.sittings.specs.Sittings.{Sitting}
-use Rattle.sittings.specs.Calls.{Call, call, exclude, activate, deactivate, perform}
+use Rattle.sittings.specs.Calls.{Call, exclude, activate, deactivate, perform}
 use Rattle.sittings.specs.Records.{Decoded, malformed, well-formed, own-kind, own, decoded, decode, perform-decoded, step}
 use Rattle.sittings.specs.Invariants.{Invariant}
 use Rattle.sittings.proofs.Settling.{settled}

@@ -1,6 +1,6 @@
 -- One call of a sitting: it is refused and leaves the sitting, or nothing refuses it and it leaves the sitting after it.
 -- Assumes nothing.
-use mathlib.Core.Path.{_≡_, refl, ap, subst}
+use mathlib.Core.Path.{_≡_, refl, subst}
 use mathlib.Core.Bool.{false, not}
 use mathlib.Core.Logic.{_⊎_}
 use mathlib.Core.List.{List}

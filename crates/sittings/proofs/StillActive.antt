@@ -11,7 +11,7 @@ use lib.Dec.{T, ltb, lt→ltb}
 use lib.ListN.{set, length-set}
 use lib.Pow.{pow-pos}
 use lib.Seq.{getD-set-same, getD-set-other}
-use Rattle.sets.specs.Sets.{member, collect}
+use Rattle.sets.specs.Sets.{member}
 use Rattle.sets.proofs.Tests.{both, join, same-test, fails}
 use Rattle.sets.proofs.Laws.{member-empty, member-collect, member-lt, collect-lt, extensional}
 use Rattle.graph.specs.Tables.{at, table}
