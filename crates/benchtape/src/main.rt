@@ -1,4 +1,4 @@
-// Program benchtape: answers the records of standard input, from a fresh state on, by a line each on standard output, and adds the last line.
+// Program benchtape: answers the records of standard input, from a fresh sitting on, by a line each on standard output, and adds the last line.
 //
 // Proved: what is handed over to be written is, for each part of the bytes that reading gave, the lines that the definitions give for it after the parts before, and then the last line for them all.
 // A tape's lines are those of its parts and its last line that of the whole (`printed-parts`), so together they are what document 01 has printed.
@@ -9,7 +9,8 @@ ghost use mathlib.Core.List.{List};
 ghost use mathlib.Core.Path.{_≡_};
 ghost use Prim.Native.Nat.{ℕ};
 ghost use Rattle.seats.specs.Tape.{fed};
-ghost use Rattle.seats.specs.Reading.{read-state};
+ghost use Rattle.sittings.specs.Records.{step};
+ghost use Rattle.sittings.specs.Reading.{read-sitting};
 ghost use Rattle.benchtape.specs.Progress.{Within, last-line, Answered, Reached, Proceeded};
 use graph::drawing;
 use libc::STDERR_FILENO;
@@ -17,11 +18,11 @@ use libc::STDIN_FILENO;
 use libc::STDOUT_FILENO;
 use seats::Filled;
 use seats::PartAnswer;
-use seats::State;
 use seats::records::RECORD;
-use seats::tape;
 use seats::text;
 use seats::text::LINE;
+use sittings::Sitting;
+use sittings::tape;
 
 // How many records are read at once.
 const RECORDS: usize = 1024;
@@ -38,9 +39,9 @@ enum Read {
     Failed,
 }
 
-// How far the program has come: the state, the records so far, whether there may be more of them, and whether something failed.
+// How far the program has come: the sitting, the records so far, whether there may be more of them, and whether something failed.
 struct Progress {
-    state: State,
+    sitting: Sitting,
     count: u64,
     more: bool,
     failed: bool,
@@ -80,9 +81,9 @@ fn stop(progress: Progress, reason: &[u8]) -> Progress
     ensures { λ r. ⌜ ((bytes : List ℕ) → Answered progress bytes r) ⌝ }
 {
     io::write_all(STDERR_FILENO, reason);
-    let state = progress.state;
+    let sitting = progress.sitting;
     Progress {
-        state,
+        sitting,
         count: progress.count,
         more: false,
         failed: true,
@@ -91,7 +92,7 @@ fn stop(progress: Progress, reason: &[u8]) -> Progress
 
 // Writes the lines of these records, whoever calls it having shown that they are.
 fn write_lines(progress: Progress, bytes: &[u8], lines: &[u8]) -> bool
-    requires { ⌜ now lines ≡ fed (read-state (progress .state)) (progress .count) (now bytes) .0 ⌝ }
+    requires { ⌜ now lines ≡ fed step (read-sitting (progress .sitting)) (progress .count) (now bytes) .0 ⌝ }
 {
     io::write_all(STDOUT_FILENO, lines)
 }
@@ -108,8 +109,8 @@ fn answer(progress: Progress, bytes: &[u8]) -> Progress
     ensures { λ r. ⌜ Answered progress (now (bytes .entry)) r ⌝ }
 {
     let mut room = room();
-    let state = progress.state;
-    let fed = tape::feed(state, progress.count, bytes, &mut room);
+    let sitting = progress.sitting;
+    let fed = tape::feed(sitting, progress.count, bytes, &mut room);
     let answered = fed.answer;
     match answered {
         PartAnswer::Uncounted => stop(progress, b"benchtape: too many records\n"),
@@ -118,9 +119,9 @@ fn answer(progress: Progress, bytes: &[u8]) -> Progress
             if !write_lines(progress, bytes, &room[..n]) {
                 return stop(progress, b"benchtape: writing failed\n");
             }
-            let after = fed.state;
+            let after = fed.sitting;
             Progress {
-                state: after,
+                sitting: after,
                 count: fed.count,
                 more: bytes.len() == CHUNK,
                 failed: false,
@@ -142,13 +143,13 @@ fn proceed(progress: Progress) -> Progress
     }
 }
 
-// All records of standard input, from a fresh state on.
+// All records of standard input, from a fresh sitting on.
 fn answer_all() -> Progress
     ensures { λ r. ⌜ Reached r ⌝ }
 {
-    let state = tape::fresh();
+    let sitting = tape::fresh();
     let mut progress = Progress {
-        state,
+        sitting,
         count: 0,
         more: true,
         failed: false,
@@ -166,9 +167,9 @@ fn finish(progress: Progress)
     requires { ⌜ Reached progress ⌝ }
 {
     let mut room = [0u8; 64];
-    let state = progress.state;
-    let sets = state.sets;
-    let edges = drawing::edge_count(state.roles, &sets) as u64;
+    let sitting = progress.sitting;
+    let sets = sitting.sets;
+    let edges = drawing::edge_count(sitting.roles, &sets) as u64;
     let filled = text::write_end(&mut room, progress.count, edges);
     match filled {
         Filled::TooShort(_) => {

@@ -1,4 +1,4 @@
--- `finish` meets its contract: what it writes is the last line, with the number of edges of the state.
+-- `finish` meets its contract: what it writes is the last line, with the number of edges of the sitting.
 -- Assumes nothing.
 use borrow.Author.Needs.{needs}
 use mathlib.Core.Path.{sym, ap, _∙_}
@@ -38,7 +38,7 @@ write-last-requires c κs =
     let w = c .before .before .before .before .before in
     let e = w .before .before in
     let s = e .before .before .before .before in
-    let n = e .edge-count .ensures ∙ edges-of (s .args .progress .state) in
+    let n = e .edge-count .ensures ∙ edges-of (s .args .progress .sitting) in
     (s .pre, line-told (c .before .before .filled .given .1) _ _ (w .write-end .ensures) .1 ∙ ap (end-line (s .args .progress .count)) n)
 
 slice-aggregate-stop-2 : tie.Need-slice-aggregate-stop-2
