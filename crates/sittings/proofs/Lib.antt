@@ -21,3 +21,6 @@ pub mod LoadOver
 pub mod KeeperTheorem
 pub mod RecordVerdict
 pub mod Demands
+-- ---- the code
+pub mod Choices
+pub mod FilledTables

@@ -4,7 +4,7 @@ use mathlib.Core.List.{List}
 use Prim.Native.Nat.{ℕ}
 use lib.ListN.{set}
 use Rattle.sets.specs.Counting.{any}
-use Rattle.sets.specs.Sets.{member, union, intersection, gather}
+use Rattle.sets.specs.Sets.{member, union, collect, gather}
 use Rattle.graph.specs.Tables.{at, table}
 use Rattle.graph.specs.Graph.{role-count}
 use Rattle.graph.specs.Refusing.{verdict}
@@ -21,7 +21,7 @@ reached-by lower roles = union roles (gather role-count (λ r. member r roles) (
 
 -- By seat, the active roles that its assigned roles reach, by the table of the roles below each.
 abbrev pub still-by : List ℕ → List ℕ → List ℕ → List ℕ
-still-by lower seats active = table seat-count (λ i. intersection (at active i) (reached-by lower (at seats i)))
+still-by lower seats active = table seat-count (λ i. collect role-count (λ r. member r (at active i) && member r (reached-by lower (at seats i))))
 
 -- The table with more members in an entry.
 unfoldable pub joined-at : List ℕ → ℕ → ℕ → List ℕ

@@ -110,10 +110,10 @@ fn take_request(
     let answer = taken.answer;
     match answer {
         Answer::Accepted => {
-            switch_off(roles, sets, seats, active, request);
-            Taken { answer, roles }
+            switch_off(taken.roles, sets, seats, active, request);
+            taken
         }
-        _ => Taken { answer, roles },
+        _ => taken,
     }
 }
 
@@ -126,7 +126,7 @@ fn take_choice<'a>(
     active: &mut [u64; 64],
     choice: Choice,
 ) -> Taken
-    ensures { λ r. ⌜ ((C : List ℕ) → let s = state-of roles (now (sets .entry)) C (now (seats .entry)) in ((r .roles ≡ roles) × ((read-answer (r .answer), sitting-of s (now (pairs .exit)) (now (active .exit))) ≡ perform (sitting-of s (now (pairs .entry)) (now (active .entry))) (read-choice choice)))) ⌝ }
+    ensures { λ r. ⌜ ((C : List ℕ) → (read-answer (r .answer), sitting-of (state-of (r .roles) (now (sets .entry)) C (now (seats .entry))) (now (pairs .exit)) (now (active .exit))) ≡ perform (sitting-of (state-of roles (now (sets .entry)) C (now (seats .entry))) (now (pairs .entry)) (now (active .entry))) (read-choice choice)) ⌝ }
 {
     let chosen = choosing::decide(roles, sets, seats, pairs, active, choice);
     let answer = chosen.answer;
