@@ -24,3 +24,4 @@ pub mod Demands
 -- ---- the code
 pub mod Choices
 pub mod FilledTables
+pub mod FollowingTables
