@@ -25,3 +25,5 @@ pub mod Demands
 pub mod Choices
 pub mod FilledTables
 pub mod FollowingTables
+pub mod Idle
+pub mod TakenCalls
