@@ -12,18 +12,19 @@ use Rattle.graph.specs.Editing.{Change, edit}
 use Rattle.graph.specs.Refusing.{input-checks, state-checks, Passes, First}
 use Rattle.graph.proofs.Closing.{Laid}
 use Rattle.graph.proofs.Edits.{laid}
-use Rattle.graph.proofs.Refusals.{parts}
+use Rattle.graph.proofs.Refusals.{parts, first-in-order}
 use Rattle.seats.specs.Bytes.{Bytes}
 use Rattle.seats.specs.Seats.{State, fresh}
 use Rattle.seats.specs.Calls.{change, accepted, is-refusal}
 use Rattle.seats.specs.Calls as base
 use Rattle.seats.specs.Images.{least-image, far-at, restored}
-use Rattle.seats.specs.Demands.{One, refuses, contents-in, load-checks, ChangedBy}
+use Rattle.seats.specs.Demands.{One, refuses, contents-in, load-order, load-checks, ChangedBy}
 use Rattle.seats.specs.Demands as state-demands
 use Rattle.seats.specs.Reading.{read-answer, read-filled}
 use Rattle.seats.specs.declared.Answer.{Answer}
 use Rattle.seats.proofs.CallInvariant as base-keeping
-use Rattle.seats.proofs.FirstChecks.{Settles, settles}
+use Rattle.seats.proofs.FirstChecks.{first-refuses, Settles, settles}
+use Rattle.seats.proofs.LoadVerdict.{load-checks-in-order}
 use Rattle.seats.proofs.ImageAlone.{load-alone}
 use Rattle.seats.proofs.OneOutcome as base-outcomes
 use Rattle.seats.proofs.SaveOutcomes.{front-loads, front-same}
@@ -149,9 +150,11 @@ demand-two = record {
   call-says = λ z y l a c k e q r.
       let t = base-passes (read-sitting z) c (carried z y l a e r (call c) q) .0 in
       subst (state-demands.Says c (read-sitting z .state)) (sym (state-left z y l a e r c q)) (says (read-sitting z .state) c (reached-keeps z k .state) t);
-  choice-says = λ z y l a c k b e q r.
+  choice-says = λ z y l a c k e q r.
       subst (Says c (read-sitting z)) (sym (left z y l a e r c q)) (chosen (read-sitting z) c (reached-keeps z k) (carried z y l a e r c q));
   load-refused-iff = λ z y l a n p e. load-settled z y l a e .refused-iff n p;
+  load-first-in-order = λ z y l a n p e r.
+      first-in-order load-order (load-checks l) n p (load-checks-in-order l) (first-refuses (load-checks l) n p (load-settled z y l a e .refused-iff n p .0 r));
   load-accepted-iff = λ z y l a e.
       let w = load-settled z y l a e in (
         λ r. w .accepted-iff .0 (no-refusal a r),

@@ -1,5 +1,5 @@
 -- Document 02, Item 3: the calls of a sitting, kinds 1 to 15, and refusals 34 and 35 behind those of document 01; and the question.
-use mathlib.Core.Bool.{Bool, not}
+use mathlib.Core.Bool.{not}
 use mathlib.Core.List.{List, [], _∷_, _++_}
 use Prim.Native.Nat.{ℕ}
 use lib.Dec.{eqb}

@@ -2,7 +2,7 @@
 -- Bytes, records, tapes and buffers are any, and so is the sitting at hand, but where a sentence speaks of the sittings that a keeper reaches.
 -- What concerns images alone, reading, measuring and saving them, stands in the demands of `seats`.
 use mathlib.Core.Path.{_≡_}
-use mathlib.Core.Bool.{Bool, false}
+use mathlib.Core.Bool.{false}
 use mathlib.Core.Logic.{_↔_}
 use mathlib.Core.List.{List, [], _∷_, _++_, map, List·Memᴰ}
 use Prim.Native.Nat.{ℕ, _-_, _<_, _≤_}
@@ -14,7 +14,7 @@ use Rattle.graph.specs.Drawing.{redraw}
 use Rattle.graph.specs.Editing.{Change, edit}
 use Rattle.graph.specs.Refusing.{Check, Passes, First, refusal-order, no-earlier, no-privilege-number}
 use Rattle.seats.specs.Bytes.{Bytes, written}
-use Rattle.seats.specs.Calls.{change, accepted, answered, refused, no-seat-number, is-refusal}
+use Rattle.seats.specs.Calls.{change, accepted, answered, refused, no-seat-number}
 use Rattle.seats.specs.Calls as base
 use Rattle.seats.specs.Images.{least-image, far-at, restored}
 use Rattle.seats.specs.Promises.{SavePromise}
@@ -110,10 +110,13 @@ pub record DemandTwo : Type 0 where
   pub call-says : (z y : Sitting) (l : List ℕ) (a : Answer) (c : base.Call) → Reached z → StepPromise z l a y → decode l ≡ well-formed (call c) → refuses a ≡ false
       → state-demands.Says c (read-sitting z .state) (read-sitting y .state)
   -- So are the pairs and the active roles after any accepted call.
-  pub choice-says : (z y : Sitting) (l : List ℕ) (a : Answer) (c : Call) → Reached z → Bytes l → StepPromise z l a y → decode l ≡ well-formed c → refuses a ≡ false
+  pub choice-says : (z y : Sitting) (l : List ℕ) (a : Answer) (c : Call) → Reached z → StepPromise z l a y → decode l ≡ well-formed c → refuses a ≡ false
       → Says c (read-sitting z) (read-sitting y)
   -- A load is refused with a number and a place exactly where their condition is the first in the order that holds.
   pub load-refused-iff : (z y : Sitting) (l : List ℕ) (a : Answer) (n p : ℕ) → LoadPromise z l a y → (read-answer a ≡ refused n p) ↔ First (load-checks l) n p
+  -- Here the order is 6, 7, 8.
+  pub load-first-in-order : (z y : Sitting) (l : List ℕ) (a : Answer) (n p : ℕ) → LoadPromise z l a y → read-answer a ≡ refused n p
+      → (k : Check) → List·Memᴰ k (load-checks l) → T (k .holds) → T (no-earlier load-order n (k .number))
   -- It is accepted exactly where none holds, and gives the state that the image's entries describe, with no pair and nothing active.
   pub load-accepted-iff : (z y : Sitting) (l : List ℕ) (a : Answer) → LoadPromise z l a y → (read-answer a ≡ accepted) ↔ Passes (load-checks l)
   pub load-accepted : (z y : Sitting) (l : List ℕ) (a : Answer) → LoadPromise z l a y → read-answer a ≡ accepted → read-sitting y ≡ begun (restored (contents-in l))
