@@ -3,3 +3,4 @@ pub mod Tape
 pub mod Seats
 pub mod Withdrawals
 pub mod Sheets
+pub mod Sittings
