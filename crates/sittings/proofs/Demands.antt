@@ -46,6 +46,7 @@ use Rattle.sittings.proofs.History.{call-excludes, call-activates}
 use Rattle.sittings.proofs.Question.{question-settles}
 use Rattle.sittings.proofs.LoadOver.{load-settles, load-begins, accepted-load, load-number}
 use Rattle.sittings.proofs.KeeperTheorem.{keeper-theorem}
+use Rattle.sittings.proofs.PartDemands.{part-answered, tape-answered, part-refused, part-uncounted, part-refused-iff, part-uncounted-iff, part-accepted}
 use Rattle.sittings.proofs.RecordVerdict.{record-refused-iff, record-refused, record-accepted-iff, record-first, record-accepted, record-passes}
 
 -- Two outcomes that are the same have the same answer and the same sitting.
@@ -95,6 +96,8 @@ demand-one = record {
   call-answered = λ z l. one-outcome (step (read-sitting z) l);
   load-answered = λ z l. one-outcome (load-over (read-sitting z) l);
   question-answered = λ z i p. one-answer (ask-active z i p);
+  part-answered = part-answered;
+  tape-answered = tape-answered;
   call-refused = λ z y l a n p e r. record-refused (read-sitting z) (read-outcome (a, y)) l e n p r;
   load-refused = λ z y l a n p e r.
       let (x, w) = load-number (read-sitting z) l n p (sym (by-part e .0) ∙ r) in
@@ -103,6 +106,8 @@ demand-one = record {
     | inl (_, q, _) ↦ sym q
     | inr (_, f) ↦ elim f [ inl (_, q, _) ↦ sym q | inr (_, x) ↦ absurd x ]
   ];
+  part-refused = part-refused;
+  part-uncounted = part-uncounted;
 }
 
 -- ---- what a keeper reaches
@@ -163,6 +168,9 @@ demand-two = record {
   load-accepted = λ z y l a e r. by-part (load-settled z y l a e .accepted-gives (no-refusal a r)) .1;
   question-refused-iff = λ z i k a n p e. question-settles z i k (read-answer a) e .refused-iff n p;
   question-accepted = λ z i k a e t. let w = question-settles z i k (read-answer a) e in by-part (w .accepted-gives (w .accepted-iff .1 t)) .0;
+  part-refused-iff = part-refused-iff;
+  part-uncounted-iff = part-uncounted-iff;
+  part-accepted = part-accepted;
   saved-loads = λ z h y buffer left before f n a r e w p.
       let s = read-sitting z .state in
       by-part (p ∙ load-begins (read-sitting h) _ s (front-loads s buffer left (read-filled f) e n w (reached-keeps z r .state) (read-sitting h .state) before));

@@ -14,6 +14,7 @@ pub mod ListTheorem
 pub mod KeeperTheorem
 pub mod LoadOver
 pub mod RecordVerdict
+pub mod PartDemands
 pub mod Demands
 -- ---- tables and loops over them
 pub mod JoinedTables
@@ -29,3 +30,4 @@ pub mod Idle
 pub mod TakenCalls
 -- ---- tapes
 pub mod SittingCells
+pub mod Printed

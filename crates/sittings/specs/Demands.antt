@@ -5,7 +5,7 @@ use mathlib.Core.Path.{_≡_}
 use mathlib.Core.Bool.{false}
 use mathlib.Core.Logic.{_↔_}
 use mathlib.Core.List.{List, [], _∷_, _++_, map, List·Memᴰ}
-use Prim.Native.Nat.{ℕ, _-_, _<_, _≤_}
+use Prim.Native.Nat.{ℕ, suc, _+_, _-_, _^_, _<_, _≤_}
 use lib.ListN.{length, take, drop}
 use lib.Dec.{T}
 use Rattle.lists.specs.Runs.{unrefused, Each, Chain}
@@ -13,30 +13,43 @@ use Rattle.graph.specs.Graph.{role-count, effective}
 use Rattle.graph.specs.Drawing.{redraw}
 use Rattle.graph.specs.Editing.{Change, edit}
 use Rattle.graph.specs.Refusing.{Check, Passes, First, refusal-order, no-earlier, no-privilege-number}
-use Rattle.seats.specs.Bytes.{Bytes, written}
+use Rattle.seats.specs.Bytes.{Bytes, written, too-short}
 use Rattle.seats.specs.Calls.{change, accepted, answered, refused, no-seat-number}
 use Rattle.seats.specs.Calls as base
 use Rattle.seats.specs.Images.{least-image, far-at, restored}
+use Rattle.seats.specs.Tape.{records, lines, PartAnswer, fills, uncounted, joined}
 use Rattle.seats.specs.Promises.{SavePromise}
 use Rattle.seats.specs.Demands.{One, refuses, OfCall, OfLoad, contents-in, load-order, load-checks, ChangedBy, Closes}
 use Rattle.seats.specs.Demands as state-demands
-use Rattle.seats.specs.Reading.{read-answer, read-filled}
+use Rattle.seats.specs.Reading.{read-answer, read-filled, read-part}
 use Rattle.seats.specs.declared.Answer.{Answer}
 use Rattle.seats.specs.declared.Filled.{Filled}
 use Rattle.sittings.specs.Sittings.{begun, excluded, is-active, may-use-active}
 use Rattle.sittings.specs.Sittings as sittings
 use Rattle.sittings.specs.Calls.{Call, call, checks, after, reply}
 use Rattle.sittings.specs.Records.{Decoded, malformed, well-formed, decode}
-use Rattle.sittings.specs.Lists.{exclusion, activity}
-use Rattle.sittings.specs.Promises.{StepPromise, LoadPromise, AskPromise, KeeperStart, DemandThreeOnCode}
-use Rattle.sittings.specs.Reading.{read-sitting}
+use Rattle.sittings.specs.Lists.{answers, end, exclusion, activity}
+use Rattle.sittings.specs.Promises.{StepPromise, LoadPromise, AskPromise, FeedPromise, KeeperStart, DemandThreeOnCode}
+use Rattle.sittings.specs.Reading.{read-sitting, read-fed}
 use Rattle.sittings.specs.declared.Sitting.{Sitting}
+use Rattle.sittings.specs.declared.Fed.{Fed}
 
 -- ---- what the demands are said with
 
--- An answer and a sitting, as the definitions have them.
+-- An answer and a sitting, and what a part of a tape comes to, as the definitions have them.
 abbrev pub read-outcome : Answer × Sitting → base.Answer × sittings.Sitting
 read-outcome x = (read-answer (x .0), read-sitting (x .1))
+
+abbrev pub read-part-left : Fed × List ℕ → (PartAnswer × List ℕ) × (ℕ × sittings.Sitting)
+read-part-left x = read-fed (x .0) (x .1)
+
+-- The lines of a part of a tape, after so many records and from the sitting z.
+abbrev pub part-lines : sittings.Sitting → ℕ → List ℕ → List ℕ
+part-lines z count part = lines (suc count) (answers z (records part))
+
+-- The part f is not done: the buffer, the records so far and the sitting are as they were.
+abbrev pub Undone : Sitting → ℕ → List ℕ → Fed → List ℕ → Type 0
+Undone z count buffer f left = (left ≡ buffer) × (f .count ≡ count) × (read-sitting (f .sitting) ≡ read-sitting z)
 
 -- What a record decodes to is refused with number n at place p: with 1 at place 0 where nothing decodes, and else by the first check of the call that holds.
 unfoldable pub RefusedWith : sittings.Sitting → Decoded → ℕ → ℕ → Type 0
@@ -75,6 +88,10 @@ pub record DemandOne : Type 0 where
   pub load-answered : (z : Sitting) (l : List ℕ) → One read-outcome (λ x. LoadPromise z l (x .0) (x .1))
   -- So there is to every question, whatever the numbers.
   pub question-answered : (z : sittings.Sitting) (i p : ℕ) → One read-answer (AskPromise z i p)
+  -- So there is to every part of a tape, with the buffer, the records so far and the sitting.
+  pub part-answered : (z : Sitting) (count : ℕ) (part buffer : List ℕ) → One read-part-left (λ x. FeedPromise z count part buffer (x .0) (x .1))
+  -- The records of a tape are all of it, and each has its answer.
+  pub tape-answered : (z : sittings.Sitting) (tape : List ℕ) → (joined (records tape) ≡ tape) × (length (answers z (records tape)) ≡ length (records tape))
   -- A refused record has a number of the paper's for calls, the place of the check that refuses it, and leaves the sitting, pairs and active roles too.
   pub call-refused : (z y : Sitting) (l : List ℕ) (a : Answer) (n p : ℕ) → StepPromise z l a y → read-answer a ≡ refused n p
       → OfCall n × RefusedWith (read-sitting z) (decode l) n p × (read-sitting y ≡ read-sitting z)
@@ -83,6 +100,12 @@ pub record DemandOne : Type 0 where
       → OfLoad n × (p ≡ 0) × (read-sitting y ≡ read-sitting z)
   -- A refused question has number 2.
   pub question-refused : (z : sittings.Sitting) (i k : ℕ) (a : Answer) (n p : ℕ) → AskPromise z i k a → read-answer a ≡ refused n p → n ≡ 2
+  -- A refused part of a tape has number 9 and place 0 and is not done.
+  pub part-refused : (z : Sitting) (count : ℕ) (part buffer left : List ℕ) (f : Fed) (n p : ℕ) → FeedPromise z count part buffer f left → read-part (f .answer) ≡ fills (too-short n p)
+      → (n ≡ 9) × (p ≡ 0) × Undone z count buffer f left
+  -- One whose records 64 bits do not count is not done either.
+  pub part-uncounted : (z : Sitting) (count : ℕ) (part buffer left : List ℕ) (f : Fed) → FeedPromise z count part buffer f left → read-part (f .answer) ≡ uncounted
+      → Undone z count buffer f left
 
 -- ---- demand 2: exactly what the paper defines
 
@@ -124,6 +147,19 @@ pub record DemandTwo : Type 0 where
   pub question-refused-iff : (z : sittings.Sitting) (i k : ℕ) (a : Answer) (n p : ℕ) → AskPromise z i k a → (read-answer a ≡ refused n p) ↔ First (question-checks i k) n p
   -- Otherwise it says whether the seat's active roles reach a role that has the privilege.
   pub question-accepted : (z : sittings.Sitting) (i k : ℕ) (a : Answer) → AskPromise z i k a → Passes (question-checks i k) → read-answer a ≡ answered (may-use-active z i k)
+  -- A part of a tape is refused exactly where its records are counted and the buffer has fewer bytes than its lines.
+  pub part-refused-iff : (z : Sitting) (count : ℕ) (part buffer left : List ℕ) (f : Fed) (n p : ℕ) → FeedPromise z count part buffer f left
+      → (read-part (f .answer) ≡ fills (too-short n p))
+      ↔ ((n ≡ 9) × (p ≡ 0) × (count + length (records part) < 2 ^ 64) × (length buffer < length (part-lines (read-sitting z) count part)))
+  -- It is left uncounted exactly where 64 bits do not hold the records so far.
+  pub part-uncounted-iff : (z : Sitting) (count : ℕ) (part buffer left : List ℕ) (f : Fed) → FeedPromise z count part buffer f left
+      → (read-part (f .answer) ≡ uncounted) ↔ (2 ^ 64 ≤ count + length (records part))
+  -- Otherwise its lines stand at the buffer's front with nothing behind touched, its records are counted, and the sitting is the one that they leave.
+  pub part-accepted : (z : Sitting) (count : ℕ) (part buffer left : List ℕ) (f : Fed) → FeedPromise z count part buffer f left
+      → count + length (records part) < 2 ^ 64 → length (part-lines (read-sitting z) count part) ≤ length buffer
+      → let text = part-lines (read-sitting z) count part in
+      (read-part (f .answer) ≡ fills (written (length text))) × (left ≡ text ++ drop (length text) buffer)
+      × (f .count ≡ count + length (records part)) × (read-sitting (f .sitting) ≡ end (read-sitting z) (records part))
   -- What a keeper reaches, its state saved into enough bytes and given to loading alone or behind any bytes, loads as that state, whatever is at hand, with no pair and nothing active.
   pub saved-loads : (z h y : Sitting) (buffer left before : List ℕ) (f : Filled) (n : ℕ) (a : Answer) → Reached z
       → SavePromise (read-sitting z .state) buffer f left → read-filled f ≡ written n → LoadPromise h (before ++ take n left) a y
