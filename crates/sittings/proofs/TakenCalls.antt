@@ -28,6 +28,7 @@ use Rattle.seats.specs.Reading.{read-answer, read-request}
 use Rattle.seats.specs.declared.Answer.the-variants as answers
 use Rattle.seats.specs.declared.Request.the-variants as requests
 use Rattle.seats.proofs.Answer as answer-enum
+use Rattle.seats.proofs.Request as request-enum
 use Rattle.seats.proofs.JudgedCalls.{settle-refused, settle-passed}
 use Rattle.seats.proofs.Settling as base-settling
 use Rattle.seats.proofs.Changing.{accepted-taken, other-taken}
@@ -109,6 +110,15 @@ module _ (z : Sitting) (c : Change) where
           ∙ sym (judged-after ∙ settle-passed (read-answer a) z left (sym f ∙ ap read-verdict x))
 
 -- ---- requests
+-- No request but kind 11 switches anything off.
+pub none-off : (h : State) (A : List ℕ) (r : requests.the-data) → OneOf (0 ∷ 1 ∷ 2 ∷ 4 ∷ []) (tagOf request-enum.the-type r) → A ≡ active-after (read-request r) h A
+unfolding read-request active-after
+none-off h A (requests.Declare a b) o = refl
+none-off h A (requests.Lift a b) o = refl
+none-off h A (requests.Assign a b) o = refl
+none-off h A (requests.Unassign a b) o = absurd (miss (0 ∷ 1 ∷ 2 ∷ 4 ∷ []) 3 tt o)
+none-off h A (requests.Ask a b) o = refl
+
 module _ (z : Sitting) (r : requests.the-data) where
   -- No pair is judged for a request, and none goes.
   followed-request : {a : Answer} (h : State) → is-refusal a ≡ false → followed z (read-request r) (a, h) ≡ (a, sitting-of h (z .pairs) (active-after (read-request r) h (z .active)))
