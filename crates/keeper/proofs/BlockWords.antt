@@ -1,101 +1,109 @@
--- A block as the words of its state and the words behind them: what writing tables leaves.
+-- A block as the words of its sitting and the words behind them: what writing its tables leaves.
 -- Assumes nothing.
-use mathlib.Core.Path.{_≡_, sym, ap, ap₂, _∙_}
-use mathlib.Core.List.{List, _∷_, _++_, append-assoc}
-use Prim.Native.Nat.{ℕ, suc, _+_, _<_, _≤_}
+use mathlib.Core.Path.{_≡_, refl, sym, ap, ap₂, _∙_}
+use mathlib.Core.Bool.{_&&_}
+use mathlib.Core.List.{List, [], _∷_, _++_, append-assoc}
+use Prim.Native.Nat.{ℕ, _+_, _≤_}
 use native.Mathlib.Omega.{arith}
-use lib.ListN.{length, getD, take, drop, set, length-append, length-drop, take-append-drop}
-use lib.Seq.{take-at, length-take-le, drop-cons, drop-drop}
+use lib.ListN.{length, getD, take, drop, set, length-drop, length-set}
+use lib.Seq.{sets-eq, length-take-le, drop-cons, drop-drop}
+use lib.Dec.{T, leb, leb→le}
+use Rattle.sets.proofs.Tests.{both}
 use Rattle.graph.specs.Graph.{role-count, privilege-count}
 use Rattle.graph.specs.Reading.{sets-in}
-use Rattle.seats.specs.Seats.{State, seat-count}
-use Rattle.seats.specs.Calls.{with-graph, with-conflicts, with-seats}
+use Rattle.seats.specs.Seats.{seat-count}
+use Rattle.seats.specs.Reading.{state-of}
 use Rattle.seats.specs.Written.{Written}
-use Rattle.seats.proofs.Written.{and-then, one-written, written-front}
-use Rattle.keeper.specs.Block.{sets-word, conflicts-word, seats-word, block-length, table-at, sets-of, conflicts-of, seats-of, state-in, words-of, holding}
-
--- ---- tables written
-
--- The roles and the sets written.
-roles-put : (r : ℕ) (W : List ℕ) {A X : List ℕ} → conflicts-word ≤ length W → Written (set W 0 r) sets-word A X conflicts-word → X ≡ (r ∷ A) ++ drop conflicts-word W
-roles-put r W {A} l w =
-    let p = and-then (one-written W 0 r) w in
-    let n = p .place in
-    let e : suc (length A) ≡ conflicts-word = omega arith in
-    written-front p (omega arith) ∙ ap (λ (k : ℕ). (r ∷ A) ++ drop k W) e
-
--- A state written.
-pub state-put : (s : State) (W : List ℕ) {X Y Z : List ℕ} → block-length ≤ length W → Written (set W 0 (s .graph .roles)) sets-word (s .graph .sets) X conflicts-word → Written X conflicts-word (s .graph .conflicts) Y seats-word → Written Y seats-word (s .seats) Z block-length → Z ≡ holding s W
-unfolding holding words-of
-state-put s W l w x y =
-    let p = and-then (one-written W 0 (s .graph .roles)) (and-then w (and-then x y)) in
-    let n = p .place in
-    let e : length (words-of s) ≡ block-length = omega arith in
-    written-front p (omega arith) ∙ ap (λ (k : ℕ). words-of s ++ drop k W) e
-
--- ---- the words as tables
-
-pub regroup : (a b c d : List ℕ) → (a ++ (b ++ c)) ++ d ≡ a ++ (b ++ (c ++ d))
-regroup a b c d = simp append-assoc
+use Rattle.seats.proofs.Written.{one-written, written-length}
+use Rattle.sittings.specs.Reading.{sitting-of}
+use Rattle.keeper.specs.Block.{sets-word, conflicts-word, seats-word, pairs-word, active-word, block-length, table-at, sets-of, conflicts-of, seats-of, pairs-of, active-of, sitting-in, words-of, holding}
+use Rattle.keeper.proofs.LaidTables.{cut, past, laid, laid-cut, stands, behind-stays, cut-written}
 
 -- A table has its words.
 pub table-whole : (W : List ℕ) (i n : ℕ) → i + n ≤ length W → length (table-at W i n) ≡ n
 table-whole W i n l = length-take-le n (drop i W) (simp length-drop (omega arith))
 
--- A table and the words behind it.
-next-table : (W : List ℕ) (i n : ℕ) → drop i W ≡ table-at W i n ++ drop (i + n) W
-next-table W i n = sym (take-append-drop n (drop i W)) ∙ ap (λ (k : List ℕ). table-at W i n ++ k) (drop-drop n i W)
+-- How many words each table of a block has, the word of the roles first.
+abbrev pub sizes : List ℕ
+sizes = 1 ∷ role-count ∷ privilege-count ∷ seat-count ∷ role-count ∷ seat-count ∷ []
 
--- The last two tables and the words behind them.
-last-tables : (W : List ℕ) → drop conflicts-word W ≡ conflicts-of W ++ (seats-of W ++ drop block-length W)
-last-tables W = next-table W conflicts-word privilege-count ∙ ap (λ (k : List ℕ). conflicts-of W ++ k) (next-table W seats-word seat-count)
+-- The tables of these words.
+abbrev pub tables : ℕ → List ℕ → List ℕ → List ℕ → List ℕ → List ℕ → List (List ℕ)
+tables roles sets conflicts seats pairs active = (roles ∷ []) ∷ sets ∷ conflicts ∷ seats ∷ pairs ∷ active ∷ []
 
--- Roles and sets written before tables that stay.
-pub graph-put : (s : State) (W : List ℕ) {X : List ℕ} → block-length ≤ length W → s .graph .conflicts ≡ conflicts-of W → s .seats ≡ seats-of W → Written (set W 0 (s .graph .roles)) sets-word (s .graph .sets) X conflicts-word → X ≡ holding s W
-unfolding holding words-of
-graph-put s W l p q w =
-    roles-put (s .graph .roles) W (omega arith) w
-    ∙ rw (last-tables W, p, q) (ap (λ (k : List ℕ). s .graph .roles ∷ k) (sym (regroup (s .graph .sets) (conflicts-of W) (seats-of W) (drop block-length W))))
+-- The block X has these tables, and behind them the words of the block W.
+pub record Has (W X : List ℕ) (m : List (List ℕ)) : Type 0 where
+  pub room : block-length ≤ length W
+  pub same-length : length X ≡ length W
+  pub same-tables : cut sizes 0 X ≡ m
+  pub same-rest : drop block-length X ≡ drop block-length W
 
--- The front of a block up to its conflicts, and the rest.
-front : List ℕ → List ℕ
-front W = getD W 0 0 ∷ sets-of W
+-- A block has its own tables.
+pub has-own : (W : List ℕ) → block-length ≤ length W → Has W W (tables (getD W 0 0) (sets-of W) (conflicts-of W) (seats-of W) (pairs-of W) (active-of W))
+unfolding cut
+has-own W l = record {
+  room = l;
+  same-length = refl;
+  same-tables = ap (λ (k : List ℕ). take 1 k ∷ cut (role-count ∷ privilege-count ∷ seat-count ∷ role-count ∷ seat-count ∷ []) 1 W) (drop-cons W 0 0 (omega arith));
+  same-rest = refl;
+}
 
-laid : (W : List ℕ) → 0 < length W → W ≡ front W ++ (conflicts-of W ++ (seats-of W ++ drop block-length W))
-unfolding front
-laid W l = drop-cons W 0 0 l ∙ ap (λ (k : List ℕ). getD W 0 0 ∷ k) (next-table W sets-word role-count ∙ ap (λ (k : List ℕ). sets-of W ++ k) (last-tables W))
+-- Table k written.
+has-written : {W X Y t : List ℕ} {m : List (List ℕ)} {a b : ℕ} (k : ℕ) → T (leb b block-length && stands a b sizes 0 k) → Has W X m → Written X a t Y b → Has W Y (set m k t)
+has-written {X = X} {t = t} {a = a} {b = b} k h x w =
+    let (p, q) = both (leb b block-length) (stands a b sizes 0 k) h in
+    let n = x .same-length in
+    let r = x .room in
+    let f : b ≤ block-length = leb→le b block-length p in
+    let room : b ≤ length X = omega arith in
+    record {
+      room = r;
+      same-length = written-length w ∙ n;
+      same-tables = cut-written w room sizes 0 k q ∙ ap (λ (l : List (List ℕ)). set l k t) (x .same-tables);
+      same-rest = behind-stays w room block-length f ∙ x .same-rest;
+    }
 
--- A block holds its own state.
-pub holds-own : (W : List ℕ) → 0 < length W → holding (state-in W) W ≡ W
-unfolding holding words-of front sets-in
-holds-own W l = simp append-assoc (sym (laid W l))
+-- Each of them written.
+module _ {W X : List ℕ} {r : ℕ} {S C A P U : List ℕ} (x : Has W X (tables r S C A P U)) where
+  pub roles-put : (k : ℕ) → Has W (set X 0 k) (tables k S C A P U)
+  unfolding stands
+  roles-put k = has-written 0 tt x (one-written X 0 k)
 
--- ---- a part written
+  pub sets-put : {Y t : List ℕ} → Written X sets-word t Y conflicts-word → Has W Y (tables r t C A P U)
+  unfolding stands
+  sets-put w = has-written 1 tt x w
 
--- The front of a block up to its conflicts is its first words.
-front-is : (W : List ℕ) → block-length ≤ length W → take conflicts-word W ≡ front W
-unfolding front
-front-is W l = ap (λ (k : List ℕ). take conflicts-word k) (laid W (omega arith)) ∙ take-at (front W) _ conflicts-word (ap suc (table-whole W sets-word role-count (omega arith)))
+  pub conflicts-put : {Y t : List ℕ} → Written X conflicts-word t Y seats-word → Has W Y (tables r S t A P U)
+  unfolding stands
+  conflicts-put w = has-written 2 tt x w
 
--- The conflicts written over those of the block.
-pub conflicts-put : (W Y : List ℕ) {C : List ℕ} → block-length ≤ length W → sets-in Y ≡ C
-    → take conflicts-word W ++ (Y ++ drop privilege-count (drop conflicts-word W)) ≡ holding (with-conflicts (state-in W) C) W
-unfolding holding words-of front with-graph with-conflicts sets-in
-conflicts-put W Y {C} l e =
-    let D = drop block-length W in
-    ap₂ (λ (F R : List ℕ). F ++ (Y ++ R)) (front-is W l) (drop-drop privilege-count conflicts-word W ∙ next-table W seats-word seat-count)
-    ∙ ap (λ (k : List ℕ). front W ++ (k ++ (seats-of W ++ D))) e
-    ∙ ap (λ (k : List ℕ). getD W 0 0 ∷ k) (sym (regroup (sets-of W) C (seats-of W) D))
+  pub seats-put : {Y t : List ℕ} → Written X seats-word t Y pairs-word → Has W Y (tables r S C t P U)
+  unfolding stands
+  seats-put w = has-written 3 tt x w
 
--- The seats' roles written over those of the block.
-pub seats-put : (W Y : List ℕ) {A : List ℕ} → block-length ≤ length W → Y ≡ A
-    → take seats-word W ++ (Y ++ drop seat-count (drop seats-word W)) ≡ holding (with-seats (state-in W) A) W
-unfolding holding words-of front with-seats sets-in
-seats-put W Y {A} l e =
-    let D = drop block-length W in
-    let b : length (front W ++ conflicts-of W) ≡ seats-word = length-append (front W) (conflicts-of W) ∙ rw (ap suc (table-whole W sets-word role-count (omega arith)), table-whole W conflicts-word privilege-count (omega arith)) in
-    let t : take seats-word W ≡ front W ++ conflicts-of W = ap (λ (k : List ℕ). take seats-word k) (laid W (omega arith) ∙ sym (append-assoc (front W) (conflicts-of W) _)) ∙ take-at (front W ++ conflicts-of W) _ seats-word b in
-    ap₂ (λ (F R : List ℕ). F ++ (Y ++ R)) t (drop-drop seat-count seats-word W)
-    ∙ ap (λ (k : List ℕ). (front W ++ conflicts-of W) ++ (k ++ D)) e
-    ∙ append-assoc (front W) (conflicts-of W) (A ++ D)
-    ∙ ap (λ (k : List ℕ). getD W 0 0 ∷ k) (sym (regroup (sets-of W) (conflicts-of W) A D))
+  pub pairs-put : {Y t : List ℕ} → Written X pairs-word t Y active-word → Has W Y (tables r S C A t U)
+  unfolding stands
+  pairs-put w = has-written 4 tt x w
+
+  pub active-put : {Y t : List ℕ} → Written X active-word t Y block-length → Has W Y (tables r S C A P t)
+  unfolding stands
+  active-put w = has-written 5 tt x w
+
+-- A table in which one word is stored.
+pub stored-in : (W : List ℕ) (i n e v : ℕ) {t : List ℕ} → i + n ≤ length W → t ≡ set (table-at W i n) e v → Written W i (set (table-at W i n) e v) (take i W ++ (t ++ drop n (drop i W))) (i + n)
+stored-in W i n e v {t} h q =
+    let s = set (table-at W i n) e v in
+    let l : length s ≡ n = length-set (table-at W i n) e v ∙ table-whole W i n h in
+    record {
+      list = ap (λ (k : List ℕ). take i W ++ (k ++ drop n (drop i W))) q ∙ ap (λ (k : List ℕ). take i W ++ (s ++ k)) (drop-drop n i W ∙ ap (λ (k : ℕ). drop (i + k) W) (sym l)) ∙ sym (append-assoc (take i W) s _) ∙ sym (sets-eq s W i (omega arith));
+      place = ap (λ (k : ℕ). i + k) (sym l);
+    }
+
+-- A block with these tables holds their sitting.
+pub has-holding : {W X : List ℕ} {r : ℕ} {S C A P U : List ℕ} → Has W X (tables r S C A P U) → X ≡ holding (sitting-of (state-of r S C A) P U) W
+unfolding holding words-of sets-in past laid
+has-holding {X = X} x = laid-cut sizes 0 X ∙ ap₂ laid (x .same-tables) (x .same-rest) ∙ simp append-assoc
+
+-- A block holds its own sitting.
+pub holds-own : (W : List ℕ) → block-length ≤ length W → holding (sitting-in W) W ≡ W
+holds-own W l = sym (has-holding (has-own W l))

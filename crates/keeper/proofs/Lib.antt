@@ -1,5 +1,6 @@
 -- ---- a block of words
 pub mod TableCopies
+pub mod LaidTables
 pub mod BlockWords
 pub mod BlockStates
 -- ---- answers as numbers

@@ -8,30 +8,34 @@ use Rattle.graph.specs.Tables.{at}
 use Rattle.graph.specs.Graph.{effective}
 use Rattle.graph.specs.Conflicts.{declared}
 use Rattle.graph.specs.Drawing.{below, juniors, seniors, edge-count, direct}
-use Rattle.seats.specs.Seats.{State, fresh, held}
+use Rattle.seats.specs.Seats.{held}
 use Rattle.seats.specs.Calls.{Answer, accepted}
-use Rattle.seats.specs.Records.{step}
-use Rattle.seats.specs.Images.{measure, load-over}
+use Rattle.seats.specs.Records as base
+use Rattle.seats.specs.Images.{measure}
 use Rattle.seats.specs.Saving.{save}
 use Rattle.seats.specs.ListTheorem.{ask-record}
 use Rattle.seats.specs.Asks.{is-yes, yes-count}
-use Rattle.keeper.specs.Block.{holding, of-state, code-of, no-state, not-saved, save-code, length-code}
+use Rattle.sittings.specs.Sittings.{Sitting, fresh, excluded}
+use Rattle.sittings.specs.Calls.{ask-active}
+use Rattle.sittings.specs.Records.{step}
+use Rattle.sittings.specs.Images.{load-over}
+use Rattle.keeper.specs.Block.{holding, of-sitting, of-state, code-of, no-state, not-saved, save-code, length-code}
 
--- An answer's code, and the block with the state after it.
-unfoldable pub given : List ℕ → Answer × State → ℕ × List ℕ
+-- An answer's code, and the block with the sitting after it.
+unfoldable pub given : List ℕ → Answer × Sitting → ℕ × List ℕ
 given W r = (code-of (r .0), holding (r .1) W)
 
--- A fresh state.
+-- A fresh sitting.
 unfoldable pub fresh-block : List ℕ → ℕ × List ℕ
-fresh-block W = of-state W (λ s. given W (accepted, fresh)) (no-state, W)
+fresh-block W = of-sitting W (λ z. given W (accepted, fresh)) (no-state, W)
 
 -- A record's step.
 unfoldable pub call-block : List ℕ → List ℕ → ℕ × List ℕ
-call-block W l = of-state W (λ s. given W (step s l)) (no-state, W)
+call-block W l = of-sitting W (λ z. given W (step z l)) (no-state, W)
 
--- The image that ends the bytes; a refused load keeps the state.
+-- The image that ends the bytes, with which a sitting begins; a refused load keeps the sitting.
 unfoldable pub load-block : List ℕ → List ℕ → ℕ × List ℕ
-load-block W l = of-state W (λ s. given W (load-over s l)) (no-state, W)
+load-block W l = of-sitting W (λ z. given W (load-over z l)) (no-state, W)
 
 -- The state's image at the buffer's front; a block with too few words has none, and its answer is no length either.
 unfoldable pub save-block : List ℕ → List ℕ → ℕ × List ℕ
@@ -41,13 +45,13 @@ save-block W buffer = of-state W (λ s. let r = save s buffer in (save-code (r .
 unfoldable pub image-length : List ℕ → ℕ
 image-length l = length-code (measure l)
 
--- Seat i may use privilege p: kind 12, given next, answers yes. A refusal is no yes, and neither is what a number above 63 is answered.
+-- Seat i may use privilege p by its assigned roles: kind 12 answers yes. A refusal is no yes, and neither is what a number above 63 is answered.
 unfoldable pub may-block : List ℕ → ℕ → ℕ → Bool
-may-block W i p = of-state W (λ s. is-yes (step s (ask-record i p) .0)) false
+may-block W i p = of-state W (λ s. is-yes (base.step s (ask-record i p) .0)) false
 
 -- The answer to a record that asks.
 unfoldable pub ask-block : List ℕ → ℕ → ℕ → ℕ
-ask-block W i p = of-state W (λ s. code-of (step s (ask-record i p) .0)) no-state
+ask-block W i p = of-state W (λ s. code-of (base.step s (ask-record i p) .0)) no-state
 
 -- How many of these asks are answered yes.
 unfoldable pub count-yes-block : List ℕ → List ℕ → ℕ
@@ -88,3 +92,21 @@ seat-roles-block W i = of-state W (λ s. at (s .seats) i) empty
 -- What seat i holds.
 unfoldable pub held-block : List ℕ → ℕ → ℕ
 held-block W i = of-state W (λ s. held s i) empty
+
+-- ---- what is not saved
+
+-- Seat i may use privilege p by its active roles: the question answers yes. A refusal is no yes.
+unfoldable pub may-active-block : List ℕ → ℕ → ℕ → Bool
+may-active-block W i p = of-sitting W (λ z. is-yes (ask-active z i p)) false
+
+-- The answer to the question.
+unfoldable pub ask-active-block : List ℕ → ℕ → ℕ → ℕ
+ask-active-block W i p = of-sitting W (λ z. code-of (ask-active z i p)) no-state
+
+-- The active roles of seat i.
+unfoldable pub active-roles-block : List ℕ → ℕ → ℕ
+active-roles-block W i = of-sitting W (λ z. at (z .active) i) empty
+
+-- Roles p and q exclude each other.
+unfoldable pub excluded-block : List ℕ → ℕ → ℕ → Bool
+excluded-block W p q = of-sitting W (λ z. excluded z p q) false

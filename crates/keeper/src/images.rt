@@ -3,10 +3,11 @@ ghost use mathlib.Core.Path.{_≡_};
 ghost use Rattle.keeper.specs.Exports.{image-length};
 ghost use Rattle.keeper.specs.BlockLists.{LoadPromise, SavePromise};
 use crate::block::CONFLICTS;
+use crate::block::PAIRS;
 use crate::block::SEATS;
 use crate::block::SETS;
 use crate::block::WORDS;
-use crate::block::put_state;
+use crate::block::begin;
 use crate::codes::NO_IMAGE;
 use crate::codes::NO_STATE;
 use crate::codes::NOT_SAVED;
@@ -27,7 +28,7 @@ pub extern "C" fn keeper_save(block: &[u64], buffer: &mut [u8]) -> u32
     }
     let sets = &block[SETS..CONFLICTS];
     let conflicts = &block[CONFLICTS..SEATS];
-    let seats = &block[SEATS..WORDS];
+    let seats = &block[SEATS..PAIRS];
     let filled = saving::save(block[0], sets, conflicts, seats, buffer);
     match filled {
         Filled::Written(n) => n as u32,
@@ -47,7 +48,7 @@ pub extern "C" fn keeper_image_length(bytes: &[u8]) -> u32
     }
 }
 
-// Loads the image that ends the bytes into the block.
+// Loads the image that ends the bytes into the block, and begins a sitting with it.
 #[no_mangle]
 pub extern "C" fn keeper_load(block: &mut [u64], bytes: &[u8]) -> u32
     ensures { λ r. ⌜ LoadPromise (now (block .entry)) (now (bytes .entry)) r (now (block .exit)) ⌝ }
@@ -59,7 +60,7 @@ pub extern "C" fn keeper_load(block: &mut [u64], bytes: &[u8]) -> u32
     let verdict = image.verdict;
     match verdict {
         Verdict::Passed => {
-            put_state(block, image.state);
+            begin(block, image.state);
             0
         }
         Verdict::Refused(refusal) => refusal_code(refusal.number, refusal.place),

@@ -2,6 +2,7 @@
 ghost use mathlib.Core.Path.{_≡_};
 ghost use Rattle.keeper.specs.Exports.{may-block, ask-block, count-yes-block, edge-count-block, effective-block, direct-block, juniors-block, seniors-block, below-block, declared-block, seat-roles-block, held-block};
 use crate::block::CONFLICTS;
+use crate::block::PAIRS;
 use crate::block::SEATS;
 use crate::block::SETS;
 use crate::block::WORDS;
@@ -17,7 +18,7 @@ use graph::table::entry;
 use seats::Seat;
 use seats::seating;
 
-// Whether the seat may use the privilege; a number that no record carries is answered no.
+// Whether the seat may use the privilege by its assigned roles; a number that no record carries is answered no.
 #[no_mangle]
 pub extern "C" fn keeper_may(block: &[u64], seat: u32, privilege: u32) -> bool
     ensures { λ r. ⌜ r ≡ may-block (now (block .entry)) seat privilege ⌝ }
@@ -32,7 +33,7 @@ pub extern "C" fn keeper_may(block: &[u64], seat: u32, privilege: u32) -> bool
         return false;
     }
     let sets = &block[SETS..CONFLICTS];
-    let seats = &block[SEATS..WORDS];
+    let seats = &block[SEATS..PAIRS];
     let answer = seating::ask(sets, seats, Seat(seat as u8), Privilege(privilege as u8));
     is_yes(answer)
 }
@@ -46,7 +47,7 @@ pub extern "C" fn keeper_ask(block: &[u64], seat: u8, privilege: u8) -> u32
         return NO_STATE;
     }
     let sets = &block[SETS..CONFLICTS];
-    let seats = &block[SEATS..WORDS];
+    let seats = &block[SEATS..PAIRS];
     code(seating::ask(sets, seats, Seat(seat), Privilege(privilege)))
 }
 
@@ -59,7 +60,7 @@ pub extern "C" fn keeper_count_yes(block: &[u64], asks: &[u8]) -> u64
         return 0;
     }
     let sets = &block[SETS..CONFLICTS];
-    let seats = &block[SEATS..WORDS];
+    let seats = &block[SEATS..PAIRS];
     seating::count_yes(sets, seats, asks)
 }
 
@@ -155,7 +156,7 @@ pub extern "C" fn keeper_seat_roles(block: &[u64], seat: u8) -> u64
     if block.len() < WORDS {
         return 0;
     }
-    let seats = &block[SEATS..WORDS];
+    let seats = &block[SEATS..PAIRS];
     seating::roles_of(seats, Seat(seat))
 }
 
@@ -168,6 +169,6 @@ pub extern "C" fn keeper_seat_holds(block: &[u64], seat: u8) -> u64
         return 0;
     }
     let sets = &block[SETS..CONFLICTS];
-    let seats = &block[SEATS..WORDS];
+    let seats = &block[SEATS..PAIRS];
     word_of(seating::held_by(sets, seats, Seat(seat)))
 }

@@ -1,7 +1,6 @@
--- `keeper::images::keeper_load` meets its contract: an image that passes is written, and a refused one leaves the block.
+-- `keeper::images::keeper_load` meets its contract: an image that passes begins a sitting, and a refused one leaves the block.
 -- Assumes nothing.
 use mathlib.Core.Path.{refl, sym, ap, _∙_}
-use native.Mathlib.Omega.{arith}
 use borrow.Author.Needs.{needs}
 use borrow.Author.Tests.{lt-leb, le-leb}
 use Rattle.graph.specs.Reading.{read-verdict}
@@ -10,8 +9,9 @@ use Rattle.seats.specs.Calls.{accepted, refused}
 use Rattle.seats.specs.Tape.{answer-number, answer-place}
 use Rattle.seats.specs.Reading.{read-state}
 use Rattle.seats.proofs.LoadChecks.{loads-passed, loads-refused}
-use Rattle.seats.proofs.LoadRefusals.{load-accepted-takes, load-refused-keeps}
-use Rattle.keeper.specs.Block.{state-in, of-state, code-of}
+use Rattle.sittings.specs.Sittings.{begun}
+use Rattle.sittings.specs.Images.{settle-load, load-over}
+use Rattle.keeper.specs.Block.{sitting-in, of-sitting, code-of}
 use Rattle.keeper.specs.Exports.{load-block}
 use Rattle.keeper.proofs.BlockWords.{holds-own}
 use Rattle.keeper.proofs.CodedAnswer.{gives}
@@ -19,11 +19,11 @@ use Rattle.keeper.proofs.images.keeper_load.Statement.{statement}
 use Rattle.keeper.proofs.images.keeper_load.Tie as tie
 
 returns : tie.Need-returns
-unfolding load-block of-state
+unfolding load-block of-sitting
 returns c = simp (lt-leb _ _ (c .if1 .taken))
 
 returns-2 : tie.Need-returns-2
-unfolding load-block of-state code-of answer-number answer-place read-verdict
+unfolding load-block of-sitting load-over settle-load code-of answer-number answer-place read-verdict
 returns-2 c =
     let s = c .before .before in
     let t = s .before .before in
@@ -33,10 +33,10 @@ returns-2 c =
     let r = d .read-image .result in
     let e = loads-passed (p .args .bytes .now) (read-state (r .state)) (ap (λ (v : verdict-enum.Verdict). (read-verdict v, read-state (r .state))) (sym (t .enum-told .given .1)) ∙ d .read-image .ensures) in
     rw (le-leb _ _ (d .before .if1 .left))
-    (gives W accepted (read-state (r .state)) refl (s .put-state .ensures) (sym (load-accepted-takes (state-in W) (p .args .bytes .now) (read-state (r .state)) e)))
+    (gives W accepted (begun (read-state (r .state))) refl (s .begin .ensures) (sym (ap (settle-load (sitting-in W)) e)))
 
 returns-3 : tie.Need-returns-3
-unfolding load-block of-state read-verdict
+unfolding load-block of-sitting load-over settle-load read-verdict
 returns-3 c =
     let v = c .before .before in
     let d = v .before .before in
@@ -46,7 +46,7 @@ returns-3 c =
     let whole = d .before .if1 .left in
     let e = loads-refused (p .args .bytes .now) _ _ (read-state (r .state)) (ap (λ (v : verdict-enum.Verdict). (read-verdict v, read-state (r .state))) (sym (v .verdict .given .1)) ∙ d .read-image .ensures) in
     rw (le-leb _ _ whole)
-    (gives W (refused _ _) (state-in W) (c .refusal-code .ensures .0) (sym (holds-own W (omega (arith, whole)))) (sym (load-refused-keeps (state-in W) (p .args .bytes .now) _ _ e)))
+    (gives W (refused _ _) (sitting-in W) (c .refusal-code .ensures .0) (sym (holds-own W whole)) (sym (ap (settle-load (sitting-in W)) e)))
 
 pub keeper-load-spec : {M : Type 1} → statement M
 keeper-load-spec =
