@@ -90,9 +90,11 @@ fn same_seats(keeper: &Keeper, reference: &Reference) {
 fn the_keeper_shows_what_the_reference_does() {
     let mut random = Random::new(printed_seed());
     for _ in 0..300 {
-        let reference = random_state(&mut random);
+        let mut reference = random_state(&mut random);
+        let image = reference.save();
+        assert_eq!(reference.load(&image), Ok(()));
         let mut keeper = Keeper::fresh();
-        assert_eq!(keeper.load(&reference.save()), Ok(()));
+        assert_eq!(keeper.load(&image), Ok(()));
         same_order(&keeper, &reference);
         same_pairs(&keeper, &reference);
         same_seats(&keeper, &reference);
