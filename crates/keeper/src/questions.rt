@@ -8,7 +8,6 @@ use crate::block::SETS;
 use crate::block::WORDS;
 use crate::codes::NO_STATE;
 use crate::codes::code;
-use crate::codes::is_yes;
 use graph::Privilege;
 use graph::Role;
 use graph::table::roles_at;
@@ -32,14 +31,13 @@ pub extern "C" fn keeper_may_active(block: &[u64], seat: u32, privilege: u32) ->
     }
     let sets = &block[SETS..CONFLICTS];
     let active = &block[ACTIVE..WORDS];
-    let answer = asking::ask_active(
+    asking::may_active(
         block[0],
         sets,
         active,
         Seat(seat as u8),
         Privilege(privilege as u8),
-    );
-    is_yes(answer)
+    )
 }
 
 // What the question is answered: 1 for yes, 0 for no, or a refusal's code.

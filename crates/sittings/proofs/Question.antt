@@ -28,6 +28,11 @@ use Rattle.sittings.specs.Invariants.{Invariant}
 use Rattle.sittings.specs.Demands.{question-checks}
 use Rattle.sittings.proofs.Reaches.{in-reach, reach-in}
 
+-- The answer to the question, by the verdict of its two checks.
+pub asked : (z : Sitting) (i p : ℕ) {v : Verdict} → verdict (question-checks i p) ≡ v → ask-active z i p ≡ settle v (answered (may-use-active z i p)) z z .0
+unfolding ask-active
+asked z i p e = ap (λ (v : Verdict). settle v (answered (may-use-active z i p)) z z .0) e
+
 module _ (z : Sitting) (i p : ℕ) where
   -- The question is judged by its two checks, and changes nothing.
   pub question-settles : (a : Answer) → a ≡ ask-active z i p → Settles (question-checks i p) (answered (may-use-active z i p)) z z (a, z)

@@ -7,8 +7,10 @@ ghost use Rattle.sets.specs.Sets.{member};
 ghost use mathlib.Core.Bool.{_&&_};
 ghost use Rattle.graph.specs.Graph.{role-count, effective};
 ghost use Rattle.graph.specs.Reading.{drawn-from};
+ghost use Rattle.seats.specs.Asks.{is-yes};
 ghost use Rattle.seats.specs.Reading.{state-of};
 ghost use Rattle.sittings.specs.Sittings.{reaches};
+ghost use Rattle.sittings.specs.Calls.{ask-active};
 ghost use Rattle.sittings.specs.Promises.{AskPromise};
 ghost use Rattle.sittings.specs.Reading.{sitting-of};
 use graph::Privilege;
@@ -49,4 +51,24 @@ pub fn ask_active<'a>(
     }
     let held = roles_at(active, seat.0 as usize);
     Answer::Answered(reach_privilege(roles, sets, held, privilege))
+}
+
+// The question as a test, likewise: a refusal is no yes.
+pub fn may_active<'a>(
+    roles: u64,
+    sets: &'a [u64],
+    active: &'a [u64],
+    seat: Seat,
+    privilege: Privilege,
+) -> bool
+    ensures { λ r. ⌜ ((C W P : List ℕ) → r ≡ is-yes (ask-active (sitting-of (state-of roles (now (sets .entry)) C W) P (now (active .entry))) (seat .0) (privilege .0))) ⌝ }
+{
+    if 64 <= seat.0 {
+        return false;
+    }
+    if 64 <= privilege.0 {
+        return false;
+    }
+    let held = roles_at(active, seat.0 as usize);
+    reach_privilege(roles, sets, held, privilege)
 }

@@ -108,7 +108,21 @@ pub(crate) fn clash_by<'a>(
     lowest_clash(lower, &used, pairs, offer.lower, offer.higher)
 }
 
-// The lower role of the lowest excluding pair that is together, with what is offered; where there is no pair nothing is worked out.
+// The lower role of the lowest excluding pair that is together, with what is offered.
+fn clash_drawn<'a>(
+    roles: u64,
+    sets: &'a [u64],
+    pairs: &'a [u64],
+    active: &'a [u64],
+    offer: Offer,
+) -> Found
+    ensures { λ v. ⌜ read-found v ≡ lowest-found role-count (clashing (sitting-of (state-of roles (now (sets .entry)) [] []) (joined-at (now (pairs .entry)) (offer .lower) (offer .higher)) (joined-at (now (active .entry)) (offer .seat) (offer .roles)))) ⌝ }
+{
+    let lower = drawing::lowers(roles, sets);
+    clash_by(&lower, pairs, active, offer)
+}
+
+// The same, where nothing is worked out without a pair.
 pub(crate) fn clash<'a>(
     roles: u64,
     sets: &'a [u64],
@@ -121,6 +135,5 @@ pub(crate) fn clash<'a>(
     if all_empty(pairs) & (offer.higher == 0) {
         return Found::Nothing;
     }
-    let lower = drawing::lowers(roles, sets);
-    clash_by(&lower, pairs, active, offer)
+    clash_drawn(roles, sets, pairs, active, offer)
 }

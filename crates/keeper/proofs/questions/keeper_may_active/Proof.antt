@@ -1,10 +1,9 @@
 -- `keeper::questions::keeper_may_active` meets its contract, by two parts of the block; a number that is no byte is above the seats' and the privileges'.
 -- Assumes nothing.
-use mathlib.Core.Path.{sym, ap, _∙_}
+use mathlib.Core.Path.{sym}
 use native.Mathlib.Omega.{arith}
 use borrow.Author.Needs.{needs}
 use borrow.Author.Tests.{lt-leb, le-leb}
-use Rattle.seats.specs.Asks.{is-yes}
 use Rattle.keeper.specs.Block.{of-sitting}
 use Rattle.keeper.specs.Exports.{may-active-block}
 use Rattle.keeper.proofs.Asking.{question-no-seat, question-no-privilege}
@@ -25,7 +24,7 @@ returns-3 c = rw (le-leb _ _ (c .before .before .if1 .left)) (sym (question-no-p
 
 returns-4 : tie.Need-returns-4
 unfolding may-active-block of-sitting
-returns-4 c = rw (le-leb _ _ (c .before .before .before .before .before .before .before .if1 .left)) (c .is-yes .ensures ∙ ap is-yes (c .before .ask-active .ensures _ _ _))
+returns-4 c = rw (le-leb _ _ (c .before .before .before .before .before .before .if1 .left)) (c .may-active .ensures _ _ _)
 
 pub keeper-may-active-spec : {M : Type 1} → statement M
 keeper-may-active-spec =
@@ -43,6 +42,5 @@ keeper-may-active-spec =
     (λ c. search needs)
     (λ c. search needs)
     (λ c. search needs)
-    (λ c κs. tt)
     (λ c κs. tt)
     returns-4)

@@ -3,29 +3,23 @@
 use borrow.Author.Needs.{needs}
 use borrow.Author.Tests.{le-leb, lt-leb}
 use mathlib.Core.Bool.{_&&_}
-use mathlib.Core.List.{[], _∷_}
-use mathlib.Core.Path.{_≡_, sym, ap, _∙_}
+use mathlib.Core.Path.{sym, ap, _∙_}
 use Prim.Native.Nat.{ℕ}
 use Rattle.lists.specs.Settling as settling
 use Rattle.sets.specs.Counting.{any}
 use Rattle.sets.specs.Sets.{member}
 use Rattle.graph.specs.Graph.{role-count, ordinary, present, effective}
 use Rattle.graph.specs.Drawing.{below}
-use Rattle.graph.specs.Refusing.{Verdict, verdict, no-privilege-number, at-or-below}
+use Rattle.graph.specs.Refusing.{at-or-below}
 use Rattle.graph.specs.Reading.{drawn-from}
 use Rattle.graph.proofs.Judging.{stops, moves-on, ends}
-use Rattle.seats.specs.Calls.{answered, no-seat-number, judged, settle}
+use Rattle.seats.specs.Calls.{answered, judged, settle}
 use Rattle.seats.specs.Reading.{state-of, read-answer}
-use Rattle.sittings.specs.Sittings.{Sitting, reaches, in-use, may-use-active}
-use Rattle.sittings.specs.Calls.{ask-active}
+use Rattle.sittings.specs.Sittings.{reaches, in-use, may-use-active}
 use Rattle.sittings.specs.Reading.{sitting-of}
+use Rattle.sittings.proofs.Question.{asked}
 use Rattle.sittings.proofs.asking.ask_active.Statement.{statement}
 use Rattle.sittings.proofs.asking.ask_active.Tie as tie
-
--- The answer to the question, by the verdict of its two checks.
-asked : (z : Sitting) (a b : ℕ) {v : Verdict} → verdict (no-seat-number a ∷ no-privilege-number b ∷ []) ≡ v → ask-active z a b ≡ settle v (answered (may-use-active z a b)) z z .0
-unfolding ask-active
-asked z a b e = ap (λ (v : Verdict). settle v (answered (may-use-active z a b)) z z .0) e
 
 cast-roles-at : tie.Need-cast-roles-at
 cast-roles-at c = search needs
