@@ -13,6 +13,7 @@ use crate::PairEntry;
 use crate::Stored;
 use crate::clashing::Offer;
 use crate::clashing::clash;
+use crate::clashing::clash_if_paired;
 use crate::reaching::is_reached;
 use graph::Found;
 use graph::Role;
@@ -139,7 +140,7 @@ fn decide_activate<'a>(
                 seat,
                 roles: sets::insert(0, r),
             };
-            let pair = clash(roles, sets, pairs, active, offer);
+            let pair = clash_if_paired(roles, sets, pairs, active, offer);
             if let Found::At(place) = pair {
                 return unchanged(refusal(35, place));
             }

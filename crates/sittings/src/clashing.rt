@@ -109,7 +109,7 @@ pub(crate) fn clash_by<'a>(
 }
 
 // The lower role of the lowest excluding pair that is together, with what is offered.
-fn clash_drawn<'a>(
+pub(crate) fn clash<'a>(
     roles: u64,
     sets: &'a [u64],
     pairs: &'a [u64],
@@ -123,7 +123,7 @@ fn clash_drawn<'a>(
 }
 
 // The same, where nothing is worked out without a pair.
-pub(crate) fn clash<'a>(
+pub(crate) fn clash_if_paired<'a>(
     roles: u64,
     sets: &'a [u64],
     pairs: &'a [u64],
@@ -135,5 +135,5 @@ pub(crate) fn clash<'a>(
     if all_empty(pairs) & (offer.higher == 0) {
         return Found::Nothing;
     }
-    clash_drawn(roles, sets, pairs, active, offer)
+    clash(roles, sets, pairs, active, offer)
 }

@@ -39,7 +39,7 @@ reached y C =
     y .is-reached .ensures ∙ ap (λ (held : ℕ). reaches (drawn-from (g .roles) (g .sets .now)) held (g .b .0)) (y .before .roles-at2 .ensures)
 
 -- The role's number is a role's.
-number : (k : tie.After-clash) → k .before .before .before .before .before .before .before .before .before .before .before .before .before .before .before .before .before .args .b .0 < role-count
+number : (k : tie.After-clash-if-paired) → k .before .before .before .before .before .before .before .before .before .before .before .before .before .before .before .before .before .args .b .0 < role-count
 unfolding read-verdict
 number k =
     let j = k .before .before .before .before .before .before .before .before .before .before .before .before in
@@ -47,12 +47,12 @@ number k =
     seat-numbers (drawn-from (g .roles) []) (g .a .0) (g .b .0) (sym (j .judge-seat .ensures) ∙ ap read-verdict (k .before .before .before .before .before .before .before .before .before .before .enum-told .given .1)) .1
 
 -- What is found is found in the sitting after it.
-offered : (k : tie.After-clash) (C : List ℕ) → (
+offered : (k : tie.After-clash-if-paired) (C : List ℕ) → (
     let g = k .before .before .before .before .before .before .before .before .before .before .before .before .before .before .before .before .before .args in
-    read-found (k .clash .result) ≡ lowest-found role-count (clashing (sitting-of (state-of (g .roles) (g .sets .now) C (g .seats .now)) (g .pairs .now) (put (g .active .now) (g .a .0) (g .b .0)))))
+    read-found (k .clash-if-paired .result) ≡ lowest-found role-count (clashing (sitting-of (state-of (g .roles) (g .sets .now) C (g .seats .now)) (g .pairs .now) (put (g .active .now) (g .a .0) (g .b .0)))))
 offered k C =
     let g = k .before .before .before .before .before .before .before .before .before .before .before .before .before .before .before .before .before .args in
-    clash-found (g .roles) (g .sets .now) C (g .seats .now) (k .clash .ensures) (joined-none (g .pairs .now) 0) (put-offered (g .active .now) (number k) refl refl (k .before .insert .ensures))
+    clash-found (g .roles) (g .sets .now) C (g .seats .now) (k .clash-if-paired .ensures) (joined-none (g .pairs .now) 0) (put-offered (g .active .now) (number k) refl refl (k .before .insert .ensures))
 
 returns : tie.Need-returns
 unfolding present is-active
