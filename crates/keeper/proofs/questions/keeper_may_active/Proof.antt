@@ -22,6 +22,12 @@ returns-3 : tie.Need-returns-3
 unfolding may-active-block of-sitting
 returns-3 c = rw (le-leb _ _ (c .before .before .if1 .left)) (sym (question-no-privilege _ _ _ (omega (arith, c .if3 .taken))))
 
+cast-t15 : tie.Need-cast-t15
+cast-t15 c = search needs
+
+cast-t17 : tie.Need-cast-t17
+cast-t17 c = search needs
+
 returns-4 : tie.Need-returns-4
 unfolding may-active-block of-sitting
 returns-4 c = rw (le-leb _ _ (c .before .before .before .before .before .before .if1 .left)) (c .may-active .ensures _ _ _)
@@ -40,7 +46,7 @@ keeper-may-active-spec =
     (λ c. search needs)
     (λ c. search needs)
     (λ c. search needs)
-    (λ c. search needs)
-    (λ c. search needs)
+    cast-t15
+    cast-t17
     (λ c κs. tt)
     returns-4)
