@@ -22,11 +22,11 @@ returns-3 : tie.Need-returns-3
 unfolding may-active-block of-sitting
 returns-3 c = rw (le-leb _ _ (c .before .before .if1 .left)) (sym (question-no-privilege _ _ _ (omega (arith, c .if3 .taken))))
 
-cast-t15 : tie.Need-cast-t15
-cast-t15 c = search needs
+cast-t14 : tie.Need-cast-t14
+cast-t14 c = search needs
 
-cast-t17 : tie.Need-cast-t17
-cast-t17 c = search needs
+cast-t16 : tie.Need-cast-t16
+cast-t16 c = search needs
 
 returns-4 : tie.Need-returns-4
 unfolding may-active-block of-sitting
@@ -46,7 +46,7 @@ keeper-may-active-spec =
     (λ c. search needs)
     (λ c. search needs)
     (λ c. search needs)
-    cast-t15
-    cast-t17
+    cast-t14
+    cast-t16
     (λ c κs. tt)
     returns-4)
