@@ -17,7 +17,7 @@ extern "C" {
     pub fn keeper_may_active(block: *const u64, words: usize, seat: u32, privilege: u32) -> bool;
     pub fn keeper_ask_active(block: *const u64, words: usize, seat: u8, privilege: u8) -> u32;
     pub fn keeper_active_roles(block: *const u64, words: usize, seat: u8) -> u64;
-    pub fn keeper_is_excluded(block: *const u64, words: usize, a: u8, b: u8) -> bool;
+    pub fn keeper_is_excluded(block: *const u64, words: usize, first: u8, second: u8) -> bool;
     pub fn keeper_load(block: *mut u64, words: usize, bytes: *const u8, length: usize) -> u32;
     pub fn keeper_save(block: *const u64, words: usize, buffer: *mut u8, length: usize) -> u32;
     pub fn keeper_import(

@@ -9,16 +9,17 @@ use lib.ListN.{length, take, drop}
 use lib.Seq.{take-append-seam, drop-append-seam}
 use Rattle.lists.specs.Runs.{Chain, run}
 use Rattle.lists.proofs.Runs.{chain-runs}
-use Rattle.seats.specs.Records.{step}
 use Rattle.seats.specs.Tape.{records}
-use Rattle.seats.specs.Promises.{StepPromise}
 use Rattle.seats.specs.Demands.{One}
-use Rattle.seats.specs.Reading.{read-state, read-answer}
-use Rattle.seats.specs.declared.State.{State}
+use Rattle.seats.specs.Reading.{read-answer}
 use Rattle.seats.specs.declared.Answer.{Answer}
 use Rattle.seats.specs.Bytes.{fill}
 use Rattle.seats.proofs.Written.{unfilled}
-use Rattle.seats.proofs.KeeperTheorem.{keeper-theorem}
+use Rattle.sittings.specs.Records.{step}
+use Rattle.sittings.specs.Promises.{StepPromise}
+use Rattle.sittings.specs.Reading.{read-sitting}
+use Rattle.sittings.specs.declared.Sitting.{Sitting}
+use Rattle.sittings.proofs.KeeperTheorem.{keeper-theorem}
 use Rattle.sheets.specs.Sheets.{Sheet, Spells, tape-of}
 use Rattle.sheets.specs.Importing.{imported, refused, Fails, Imports, filled, fails, spelt}
 use Rattle.sheets.specs.Importing as importing
@@ -128,12 +129,12 @@ demand-two = record {
 }
 
 -- ---- demand 3
-chained : (s : Sheet) (c d : State) (m : List Answer) → Chain StepPromise c (records (tape-of s)) m d → (map read-answer m, read-state d) ≡ run step (read-state c) (records (tape-of s))
-chained s c d m chain = sym (chain-runs step read-state read-answer StepPromise (λ s r a t p. sym p) chain)
+chained : (s : Sheet) (c d : Sitting) (m : List Answer) → Chain StepPromise c (records (tape-of s)) m d → (map read-answer m, read-sitting d) ≡ run step (read-sitting c) (records (tape-of s))
+chained s c d m chain = sym (chain-runs step read-sitting read-answer StepPromise (λ s r a t p. sym p) chain)
 
 pub demand-three : DemandThree
 demand-three = record {
-  played = λ text s c d m p chain. chained s c d m chain ∙ tape-played s (p .good) (read-state c);
+  played = λ text s c d m p chain. chained s c d m chain ∙ tape-played s (p .good) (read-sitting c);
   every-tape = λ text s c d m p start chain. keeper-theorem c d (records (tape-of s)) m start (tape-bytes s (p .good)) chain;
 }
 

@@ -12,12 +12,15 @@ use Rattle.sets.proofs.Laws.{union-lt, when-lt, single-lt}
 use Rattle.lists.specs.Runs.{run, Each}
 use Rattle.graph.specs.Graph.{privilege-count}
 use Rattle.seats.specs.Bytes.{Bytes}
-use Rattle.seats.specs.Seats.{State}
-use Rattle.seats.specs.Calls.{Answer, perform}
-use Rattle.seats.specs.Records.{record-length, well-formed, decode, perform-decoded, step}
+use Rattle.seats.specs.Calls.{Answer}
+use Rattle.seats.specs.Records.{Decoded, record-length, well-formed, decode}
 use Rattle.seats.specs.Tape.{records, joined}
 use Rattle.seats.proofs.RecordBytes.{length-record, record-bytes, add-decodes}
 use Rattle.seats.proofs.TapeRecords.{joined-records}
+use Rattle.sittings.specs.Sittings.{Sitting}
+use Rattle.sittings.specs.Calls.{call, perform}
+use Rattle.sittings.specs.Records.{decoded, perform-decoded, step}
+use Rattle.sittings.specs.Records as sittings
 use Rattle.sheets.specs.Sheets.{Row, Sheet, GoodRow, Good, set-of, row-call, row-record, calls-of, tape-of}
 
 abbrev Columns : List ℕ → Type 0
@@ -75,17 +78,17 @@ pub tape-decodes : (s : Sheet) → Good s → map decode (records (tape-of s)) �
 unfolding calls-of
 tape-decodes s g = ap (map decode) (tape-records s) ∙ rows-decode (s .columns) (g .columns-below) (s .rows)
 
-rows-run : (cs : List ℕ) → Columns cs → (t : State) (l : List Row) → run step t (map (row-record cs) l) ≡ run perform t (map (row-call cs) l)
-unfolding run step perform-decoded
+rows-run : (cs : List ℕ) → Columns cs → (t : Sitting) (l : List Row) → run step t (map (row-record cs) l) ≡ run perform t (map call (map (row-call cs) l))
+unfolding run step sittings.decode decoded perform-decoded
 rows-run cs h t [] = refl
 rows-run cs h t (r ∷ l) =
-    ap (λ (z : Answer × State). (z .0 ∷ run step (z .1) (map (row-record cs) l) .0, run step (z .1) (map (row-record cs) l) .1)) one-row
-    ∙ ap (λ (z : List Answer × State). (perform t (row-call cs r) .0 ∷ z .0, z .1)) (rows-run cs h (perform t (row-call cs r) .1) l)
+    ap (λ (z : Answer × Sitting). (z .0 ∷ run step (z .1) (map (row-record cs) l) .0, run step (z .1) (map (row-record cs) l) .1)) one-row
+    ∙ ap (λ (z : List Answer × Sitting). (perform t (call (row-call cs r)) .0 ∷ z .0, z .1)) (rows-run cs h (perform t (call (row-call cs r)) .1) l)
   where
-    one-row : step t (row-record cs r) ≡ perform t (row-call cs r)
-    one-row = ap (perform-decoded t) (row-decodes cs h r)
+    one-row : step t (row-record cs r) ≡ perform t (call (row-call cs r))
+    one-row = ap (λ (d : Decoded). perform-decoded t (decoded d (row-record cs r))) (row-decodes cs h r)
 
 -- Playing a sheet's tape is performing the calls of its rows.
-pub tape-played : (s : Sheet) → Good s → (t : State) → run step t (records (tape-of s)) ≡ run perform t (calls-of s)
+pub tape-played : (s : Sheet) → Good s → (t : Sitting) → run step t (records (tape-of s)) ≡ run perform t (map call (calls-of s))
 unfolding calls-of
 tape-played s g t = ap (run step t) (tape-records s) ∙ rows-run (s .columns) (g .columns-below) t (s .rows)

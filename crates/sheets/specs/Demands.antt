@@ -6,14 +6,15 @@ use mathlib.Core.Path.{_≡_}
 use Prim.Native.Nat.{ℕ, _*_, _/_, _<_, _≤_}
 use lib.ListN.{length, take, drop}
 use Rattle.lists.specs.Runs.{run, Chain}
-use Rattle.seats.specs.Calls.{perform}
 use Rattle.seats.specs.Records.{record-length, well-formed, decode}
 use Rattle.seats.specs.Tape.{records}
-use Rattle.seats.specs.Promises.{StepPromise, KeeperStart, KeeperTheorem}
 use Rattle.seats.specs.Demands.{One}
-use Rattle.seats.specs.Reading.{read-state, read-answer}
-use Rattle.seats.specs.declared.State.{State}
+use Rattle.seats.specs.Reading.{read-answer}
 use Rattle.seats.specs.declared.Answer.{Answer}
+use Rattle.sittings.specs.Calls.{call, perform}
+use Rattle.sittings.specs.Promises.{StepPromise, KeeperStart, KeeperTheorem}
+use Rattle.sittings.specs.Reading.{read-sitting}
+use Rattle.sittings.specs.declared.Sitting.{Sitting}
 use Rattle.sheets.specs.Sheets.{Sheet, Spells, calls-of, tape-of}
 use Rattle.sheets.specs.Importing.{imported, refused, Fails}
 use Rattle.sheets.specs.Importing as importing
@@ -61,11 +62,11 @@ pub record DemandTwo : Type 0 where
 -- ---- demand 3: a sheet's tape as a list of calls
 
 pub record DemandThree : Type 1 where
-  -- A keeper that takes the records of a sheet's tape one by one, from any state, answers and ends as the calls of its rows do.
-  pub played : (text : List ℕ) (s : Sheet) (c d : State) (m : List Answer) → Spells text s → Chain StepPromise c (records (tape-of s)) m d
-      → (map read-answer m, read-state d) ≡ run perform (read-state c) (calls-of s)
+  -- A keeper that takes the records of a sheet's tape one by one, from any sitting, answers and ends as the calls of its rows do.
+  pub played : (text : List ℕ) (s : Sheet) (c d : Sitting) (m : List Answer) → Spells text s → Chain StepPromise c (records (tape-of s)) m d
+      → (map read-answer m, read-sitting d) ≡ run perform (read-sitting c) (map call (calls-of s))
   -- From every start it has the list theorem.
-  pub every-tape : (text : List ℕ) (s : Sheet) (c d : State) (m : List Answer) → Spells text s → KeeperStart c → Chain StepPromise c (records (tape-of s)) m d
+  pub every-tape : (text : List ℕ) (s : Sheet) (c d : Sitting) (m : List Answer) → Spells text s → KeeperStart c → Chain StepPromise c (records (tape-of s)) m d
       → KeeperTheorem c (records (tape-of s)) m d
 
 -- The three together.
