@@ -12,7 +12,7 @@ use lib.Pow.{pow-pos}
 use lib.Dec.{T, eqb, ltb, lt→ltb}
 use Rattle.sets.specs.Sets.{member, single, union, difference, when, collect}
 use Rattle.sets.proofs.Tests.{both, join, same-test, passes, fails, test-equal}
-use Rattle.sets.proofs.Laws.{member-union, member-difference, member-single, member-when, member-collect, member-empty, equal-members, union-empty, union-lt, difference-empty, difference-lt, single-lt, when-lt, collect-lt}
+use Rattle.sets.proofs.Laws.{member-union, member-difference, member-single, member-when, member-collect, member-empty, equal-members, union-empty, union-lt, difference-empty, difference-lt, single-lt, known-single, when-lt, collect-lt}
 use Rattle.graph.specs.Tables.{at, table}
 use Rattle.graph.specs.Graph.{Graph, role-count, privilege-count, max-alone, end-roles}
 use Rattle.graph.specs.Drawing.{edge, juniors, direct, redraw}
@@ -28,11 +28,6 @@ use Rattle.graph.proofs.DrawingCode.{seniors-cover, directs-table}
 use Rattle.graph.proofs.Edits.{Fits, joins-laid}
 
 -- ---- sets as the code makes them
--- The one-member set of a number below the width.
-known-single : {w a s : ℕ} → a < w → s ≡ when (ltb a w) (single a) → s ≡ single a
-unfolding when
-known-single {w} {a} l e = e ∙ rw (passes (ltb a w) (lt→ltb a w l))
-
 known-lt : {w a s : ℕ} → a < w → s ≡ when (ltb a w) (single a) → s < 2 ^ w
 known-lt {w} {a} l e = subst (λ (i : ℕ). i < 2 ^ w) (sym (known-single l e)) (single-lt w a l)
 

@@ -75,12 +75,11 @@ collecting-none f all h = record { left = left-all role-count all h; below = pow
 
 -- One turn puts n, the lowest member left, in where it passes.
 pub collecting-next : {f : ℕ → Bool} {all rest acc : ℕ} → Collecting f all rest acc → rest ≢ 0
-    → {n next put : ℕ} → n ≡ lowest-member role-count rest → next ≡ without-lowest role-count rest → put ≡ union acc (when (f n) (lowest-alone role-count rest))
+    → {n next one put : ℕ} → n ≡ lowest-member role-count rest → next ≡ without-lowest role-count rest → one ≡ single n → put ≡ union acc (when (f n) one)
     → Collecting f all next put
-collecting-next {f} {all} {rest} {acc} c some {n} {next} {put} p q e =
+collecting-next {f} {all} {rest} {acc} c some p q o e =
     let m = lowest-member role-count rest in
-    let one : put ≡ union acc (when (f n) (single n)) = e ∙ ap (λ (s : ℕ). union acc (when (f n) s)) (left-alone (c .left) some refl p) in
-    rw (q, one, p) (record {
+    rw (q, e, o, p) (record {
       left = left-next (c .left) some;
       below = union-lt role-count _ _ (c .below) (when-lt role-count (f m) (single m) (single-lt role-count m (left-lowest (c .left) some refl)));
       got = collect-next f role-count all rest acc (c .left .fits) some (c .left .within) (c .got);

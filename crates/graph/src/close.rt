@@ -23,19 +23,17 @@ struct Gathered {
     set: PrivilegeSet,
 }
 
-// Puts the set of role r into its entry, unless that is done, and gives the roles that are done. `alone` is the set of r alone.
+// Puts the set of role r into its entry, unless that is done, and gives the roles that are done.
 fn close_role(
     directs: &SetTable,
     juniors: &[u64; 64],
     sets: &mut SetTable,
     done: u64,
     r: usize,
-    alone: u64,
 ) -> u64
     requires { ⌜ r < role-count ⌝ }
     requires { ⌜ Ending (now juniors) ⌝ }
     requires { ⌜ Memo (sets-in (now directs)) (now juniors) done (sets-in (now sets)) ⌝ }
-    requires { ⌜ alone ≡ spec.single r ⌝ }
     ensures { λ d. ⌜ Memo (sets-in (now (directs .entry))) (now (juniors .entry)) d (sets-in (now (sets .exit))) ⌝ }
     ensures { λ d. ⌜ ((n : ℕ) → T (spec.member n done) → T (spec.member n d)) ⌝ }
     ensures { λ d. ⌜ T (spec.member r d) ⌝ }
@@ -46,7 +44,7 @@ fn close_role(
     let g = gather(directs, juniors, sets, done, r);
     let held = g.set;
     store(sets, r, privileges::union(entry(directs, r), held));
-    sets::union(g.done, alone)
+    sets::union(g.done, sets::single(r))
 }
 
 // Does each junior of role r, and joins their sets.
@@ -69,7 +67,7 @@ fn gather(
     let mut rest = roles_at(juniors, r);
     while rest != 0 {
         let t = sets::lowest_member(rest) as usize;
-        done = close_role(directs, juniors, sets, done, t, sets::lowest_alone(rest));
+        done = close_role(directs, juniors, sets, done, t);
         set = privileges::union(set, entry(sets, t));
         rest = sets::without_lowest(rest);
     }
@@ -86,14 +84,7 @@ pub(crate) fn close(present: u64, directs: &SetTable, juniors: &[u64; 64]) -> Se
     let mut rest = present;
     while rest != 0 {
         let r = sets::lowest_member(rest) as usize;
-        done = close_role(
-            directs,
-            juniors,
-            &mut sets,
-            done,
-            r,
-            sets::lowest_alone(rest),
-        );
+        done = close_role(directs, juniors, &mut sets, done, r);
         rest = sets::without_lowest(rest);
     }
     sets

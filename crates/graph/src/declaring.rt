@@ -105,7 +105,7 @@ pub fn with_conflict(conflicts: &[u64], a: Privilege, b: Privilege) -> ConflictE
     ensures { λ r. let C = sets-in (now (conflicts .entry)) in ⌜ (r .lower ≡ min (a .0) (b .0)) × (read-set (r .higher) ≡ union (at C (min (a .0) (b .0))) (when (ltb (max (a .0) (b .0)) privilege-count) (single (max (a .0) (b .0))))) ⌝ }
 {
     let lower = lower_of(a, b);
-    let higher = privileges::insert(entry(conflicts, lower), higher_of(a, b));
+    let higher = privileges::union(entry(conflicts, lower), privileges::single(higher_of(a, b)));
     ConflictEntry { lower, higher }
 }
 
@@ -114,6 +114,9 @@ pub fn without_conflict(conflicts: &[u64], a: Privilege, b: Privilege) -> Confli
     ensures { λ r. let C = sets-in (now (conflicts .entry)) in ⌜ (r .lower ≡ min (a .0) (b .0)) × (read-set (r .higher) ≡ difference (at C (min (a .0) (b .0))) (single (max (a .0) (b .0)))) ⌝ }
 {
     let lower = lower_of(a, b);
-    let higher = privileges::remove(entry(conflicts, lower), higher_of(a, b));
+    let higher = privileges::difference(
+        entry(conflicts, lower),
+        privileges::single(higher_of(a, b)),
+    );
     ConflictEntry { lower, higher }
 }

@@ -2,8 +2,8 @@
 ghost use mathlib.Core.Path.{_≡_};
 ghost use mathlib.Core.List.{List};
 ghost use Prim.Native.Nat.{ℕ};
-ghost use lib.Dec.{eqb, ltb};
-ghost use Rattle.sets.specs.Sets.{member, single, union, difference, when};
+ghost use lib.Dec.{eqb};
+ghost use Rattle.sets.specs.Sets.{member, union, difference, when};
 ghost use Rattle.graph.specs.Tables.{at, table};
 ghost use Rattle.graph.specs.Graph.{Graph, role-count};
 ghost use Rattle.graph.specs.Drawing.{redraw};
@@ -24,13 +24,6 @@ use crate::table::exchange_roles;
 use crate::table::exchange_sets;
 use crate::table::roles_at;
 use crate::table::seniors_in;
-
-// The set of role n alone, by a shift; from 64 on the empty set.
-fn only(n: usize) -> u64
-    ensures { λ r. ⌜ r ≡ when (ltb n role-count) (single n) ⌝ }
-{
-    sets::insert(0, n)
-}
 
 // Joins s to the direct set of each role of `to`.
 fn give(directs: &mut SetTable, to: u64, s: PrivilegeSet)
@@ -58,7 +51,7 @@ fn add_by_place(
 ) -> u64
     ensures { λ r. let c = spec.add-by-place (a .0) (read-set own) under over in ⌜ ((g : Graph) → Holds (redraw g) roles (sets-in (now (directs .entry))) (now (juniors .entry)) → early g c ≡ passed → Holds (spec.edit c (redraw g)) r (sets-in (now (directs .exit))) (now (juniors .exit))) ⌝ }
 {
-    let role = only(a.0 as usize);
+    let role = sets::single(a.0 as usize);
     give(directs, role, own);
     exchange_roles(juniors, role, 0, under);
     exchange_roles(juniors, over, 0, role);
@@ -69,7 +62,7 @@ fn add_by_place(
 fn add_by_privileges(roles: u64, directs: &mut SetTable, a: Role, own: PrivilegeSet) -> u64
     ensures { λ r. let c = spec.add-by-privileges (a .0) (read-set own) in ⌜ ((g : Graph) (J : List ℕ) → Holds (redraw g) roles (sets-in (now (directs .entry))) J → early g c ≡ passed → Holds (spec.edit c (redraw g)) r (sets-in (now (directs .exit))) J) ⌝ }
 {
-    let role = only(a.0 as usize);
+    let role = sets::single(a.0 as usize);
     give(directs, role, own);
     sets::union(roles, role)
 }
@@ -95,7 +88,7 @@ fn remove_role(
     ensures { λ r. let c = spec.remove-role (a .0) (read-removal removal) in ⌜ ((g : Graph) → Holds (redraw g) roles (sets-in (now (directs .entry))) (now (juniors .entry)) → early g c ≡ passed → Holds (spec.edit c (redraw g)) r (sets-in (now (directs .exit))) (now (juniors .exit))) ⌝ }
 {
     let i = a.0 as usize;
-    let role = only(i);
+    let role = sets::single(i);
     let over = seniors_in(senior_roles(roles), juniors, i);
     let own = entry(directs, i);
     give(directs, over, privileges::when(hands_up(removal), own));
@@ -110,7 +103,7 @@ fn remove_role(
 fn grant(roles: u64, directs: &mut SetTable, a: Role, b: Privilege) -> u64
     ensures { λ r. let c = spec.grant (a .0) (b .0) in ⌜ ((g : Graph) (J : List ℕ) → Holds (redraw g) roles (sets-in (now (directs .entry))) J → early g c ≡ passed → Holds (spec.edit c (redraw g)) r (sets-in (now (directs .exit))) J) ⌝ }
 {
-    let role = only(a.0 as usize);
+    let role = sets::single(a.0 as usize);
     let privilege = privileges::single(b);
     give(directs, role, privilege);
     roles
@@ -120,7 +113,7 @@ fn grant(roles: u64, directs: &mut SetTable, a: Role, b: Privilege) -> u64
 fn withdraw(roles: u64, directs: &mut SetTable, a: Role, b: Privilege) -> u64
     ensures { λ r. let c = spec.withdraw (a .0) (b .0) in ⌜ ((g : Graph) (J : List ℕ) → Holds (redraw g) roles (sets-in (now (directs .entry))) J → early g c ≡ passed → Holds (spec.edit c (redraw g)) r (sets-in (now (directs .exit))) J) ⌝ }
 {
-    let role = only(a.0 as usize);
+    let role = sets::single(a.0 as usize);
     let privilege = privileges::single(b);
     take(directs, role, privilege);
     roles
@@ -130,8 +123,8 @@ fn withdraw(roles: u64, directs: &mut SetTable, a: Role, b: Privilege) -> u64
 fn add_edge(roles: u64, juniors: &mut [u64; 64], a: Role, b: Role) -> u64
     ensures { λ r. let c = spec.add-edge (a .0) (b .0) in ⌜ ((g : Graph) (D : List ℕ) → Holds (redraw g) roles D (now (juniors .entry)) → early g c ≡ passed → Holds (spec.edit c (redraw g)) r D (now (juniors .exit))) ⌝ }
 {
-    let junior = only(a.0 as usize);
-    let senior = only(b.0 as usize);
+    let junior = sets::single(a.0 as usize);
+    let senior = sets::single(b.0 as usize);
     exchange_roles(juniors, senior, 0, junior);
     roles
 }
@@ -142,8 +135,8 @@ fn remove_edge(roles: u64, juniors: &mut [u64; 64], a: Role, b: Role) -> u64
 {
     let i = a.0 as usize;
     let j = b.0 as usize;
-    let junior = only(i);
-    let senior = only(j);
+    let junior = sets::single(i);
+    let senior = sets::single(j);
     let under = roles_at(juniors, i);
     let over = seniors_in(senior_roles(roles), juniors, j);
     exchange_roles(juniors, senior, junior, under);

@@ -15,11 +15,11 @@ pub fn empty() -> PrivilegeSet
 }
 
 // The set whose only member is p; for a number that is no privilege's the empty set.
-pub(crate) fn single(p: Privilege) -> PrivilegeSet
+pub fn single(p: Privilege) -> PrivilegeSet
     ensures { λ r. ⌜ read-set r ≡ spec.when (ltb (p .0) privilege-count) (spec.single (p .0)) ⌝ }
 {
     PrivilegeSet {
-        word: sets::insert(0, p.0 as usize),
+        word: sets::single(p.0 as usize),
     }
 }
 
@@ -112,24 +112,6 @@ pub(crate) fn when(c: bool, s: PrivilegeSet) -> PrivilegeSet
 {
     PrivilegeSet {
         word: sets::when(c, s.word),
-    }
-}
-
-// The members of s, and p; for a number that is no privilege's those of s alone.
-pub fn insert(s: PrivilegeSet, p: Privilege) -> PrivilegeSet
-    ensures { λ r. ⌜ read-set r ≡ spec.union (read-set s) (spec.when (ltb (p .0) privilege-count) (spec.single (p .0))) ⌝ }
-{
-    PrivilegeSet {
-        word: sets::insert(s.word, p.0 as usize),
-    }
-}
-
-// The members of s but p.
-pub(crate) fn remove(s: PrivilegeSet, p: Privilege) -> PrivilegeSet
-    ensures { λ r. ⌜ read-set r ≡ spec.difference (read-set s) (spec.when (ltb (p .0) privilege-count) (spec.single (p .0))) ⌝ }
-{
-    PrivilegeSet {
-        word: sets::remove(s.word, p.0 as usize),
     }
 }
 

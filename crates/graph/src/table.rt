@@ -130,7 +130,7 @@ pub(crate) fn seniors_in(present: u64, juniors: &[u64; 64], a: usize) -> u64
         let r = sets::lowest_member(rest) as usize;
         seniors = sets::union(
             seniors,
-            sets::when(sets::member(a, juniors[r]), sets::lowest_alone(rest)),
+            sets::when(sets::member(a, juniors[r]), sets::single(r)),
         );
         rest = sets::without_lowest(rest);
     }

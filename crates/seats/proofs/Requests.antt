@@ -8,7 +8,6 @@ use Prim.Native.Nat.{ℕ, max, _<_}
 use native.Mathlib.Omega.{arith}
 use native.Mathlib.Decide.{ℕ-discrete, decLt}
 use borrow.Author.Tests.{lt-ltb, le-ltb, eq-eqb, ne-eqb}
-use lib.Bits.{or-zero-l}
 use lib.Dec.{eqb, ltb}
 use lib.ListN.{length, set}
 use lib.Seq.{getD-set-same, getD-set-other, set-out}
@@ -54,11 +53,6 @@ pub when-empty : (b : Bool) → when b 0 ≡ 0
 unfolding when
 when-empty true = refl
 when-empty false = refl
-
--- No set joined with a set is that set.
-pub empty-union : (s : ℕ) → union 0 s ≡ s
-unfolding union
-empty-union s = or-zero-l s
 
 -- An entry of a table where b is put into entry a, if there is such an entry.
 at-put : (l : List ℕ) (a b i : ℕ) → at (put l a b) i ≡ union (at l i) (when (eqb i a) (when (ltb a (length l)) (single b)))

@@ -128,7 +128,7 @@ fn decide_assign<'a>(
             if let Found::At(holder) = pair {
                 return unchanged(refusal(30, holder));
             }
-            let roles = sets::insert(own, r);
+            let roles = sets::union(own, sets::single(r));
             let entry = SeatEntry { seat, roles };
             Decision {
                 answer: Answer::Accepted,
@@ -159,7 +159,7 @@ fn decide_unassign<'a>(
             if !sets::member(r, own) {
                 return unchanged(refusal(23, a.0));
             }
-            let roles = sets::remove(own, r);
+            let roles = sets::difference(own, sets::single(r));
             let entry = SeatEntry { seat, roles };
             Decision {
                 answer: Answer::Accepted,

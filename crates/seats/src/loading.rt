@@ -101,7 +101,7 @@ fn read_role(bytes: &[u8], at: usize, low: usize, table: &mut [u64]) -> EntryRea
     EntryRead {
         sound: true,
         place: role,
-        role: sets::insert(0, role),
+        role: sets::single(role),
     }
 }
 
@@ -133,7 +133,7 @@ fn read_conflict(bytes: &[u8], at: usize, low: usize, table: &mut [u64]) -> Entr
     store(
         table,
         lower,
-        privileges::insert(row, Privilege(bytes[at + 1])),
+        privileges::union(row, privileges::single(Privilege(bytes[at + 1]))),
     );
     EntryRead {
         sound: true,

@@ -125,7 +125,7 @@ fn occupied(seats: &[u64]) -> u64
 {
     let mut found: u64 = 0;
     for i in 0..64usize {
-        let one = sets::when(roles_at(seats, i) != 0, sets::insert(0, i));
+        let one = sets::when(roles_at(seats, i) != 0, sets::single(i));
         found = sets::union(one, found);
     }
     found

@@ -71,7 +71,7 @@ pub(crate) fn pair_seat_after<'a>(
 {
     let i = a.0 as usize;
     let known = i < seats.len();
-    let added = sets::when(known, sets::insert(0, b.0 as usize));
+    let added = sets::when(known, sets::single(b.0 as usize));
     pair_seat_with(sets, conflicts, seats, i, added)
 }
 

@@ -94,7 +94,7 @@ fn with_mark(set: PrivilegeSet, mark: u8, column: Privilege) -> PrivilegeSet
     ensures { λ r. ⌜ read-set r ≡ union (read-set set) (column-set (column .0) (eqb mark 1)) ⌝ }
 {
     if mark == 1 {
-        privileges::insert(set, column)
+        privileges::union(set, privileges::single(column))
     } else {
         set
     }

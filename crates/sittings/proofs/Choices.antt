@@ -23,7 +23,6 @@ use Rattle.graph.proofs.Judging.{refused-first, passed-first}
 use Rattle.seats.specs.Calls.{refused, seat-role-checks}
 use Rattle.seats.specs.Reading.{state-of}
 use Rattle.seats.proofs.JudgedCalls.{refused-call, passed-call}
-use Rattle.seats.proofs.Requests.{empty-union}
 use Rattle.sittings.specs.Sittings.{Sitting, excluded, is-active, reaches, covered, in-use, together, clashing}
 use Rattle.sittings.specs.Calls.{Call, exclude, activate, deactivate, pair-together, role-pair-checks, checks, after, reply, perform}
 use Rattle.sittings.specs.Reading.{sitting-of}
@@ -115,11 +114,11 @@ module _ (l : List ℕ) {a b : ℕ} (h : b < role-count) {n q : ℕ} (p : n ≡ 
   alone = rw (d, lt-ltb b role-count h)
 
   -- Offered to a search.
-  pub put-offered : {s : ℕ} → s ≡ union 0 (when (ltb q role-count) (single q)) → joined-at l n s ≡ put l a b
+  pub put-offered : {s : ℕ} → s ≡ when (ltb q role-count) (single q) → joined-at l n s ≡ put l a b
   unfolding joined-at put
-  put-offered e = ap₂ (λ (i s : ℕ). set l i (union (at l i) s)) p (e ∙ empty-union _ ∙ alone)
+  put-offered e = ap₂ (λ (i s : ℕ). set l i (union (at l i) s)) p (e ∙ alone)
 
   -- Stored with the entry.
-  pub put-stored : {s t : ℕ} → s ≡ at l n → t ≡ union s (when (ltb q role-count) (single q)) → set l n t ≡ put l a b
+  pub put-stored : {s one t : ℕ} → s ≡ at l n → one ≡ when (ltb q role-count) (single q) → t ≡ union s one → set l n t ≡ put l a b
   unfolding put
-  put-stored f e = ap₂ (set l) p (e ∙ ap₂ union (f ∙ ap (at l) p) alone)
+  put-stored f o e = ap₂ (set l) p (e ∙ ap₂ union (f ∙ ap (at l) p) (o ∙ alone))

@@ -1,16 +1,13 @@
--- What fills a table: its own entries, the members that two sets have in common, and a set without a number.
+-- What fills a table: its own entries, and the members that two sets have in common.
 -- Assumes nothing.
-use mathlib.Core.Path.{_≡_, sym, ap, _∙_}
-use mathlib.Core.Bool.{Bool, not, _&&_}
+use mathlib.Core.Path.{_≡_, sym, _∙_}
+use mathlib.Core.Bool.{_&&_}
 use mathlib.Core.List.{List}
 use Prim.Native.Nat.{ℕ, _<_, _^_}
-use native.Mathlib.Decide.{decLt}
-use native.Mathlib.Omega.{arith}
-use borrow.Author.Tests.{lt-ltb, le-ltb, ne-eqb}
-use lib.Dec.{ltb}
+use borrow.Author.Tests.{lt-ltb}
 use lib.ListN.{length}
-use Rattle.sets.specs.Sets.{member, single, intersection, difference, when, collect}
-use Rattle.sets.proofs.Laws.{extensional, member-empty, member-single, member-intersection, member-difference, member-collect, intersection-lt, difference-lt, collect-lt}
+use Rattle.sets.specs.Sets.{member, intersection, collect}
+use Rattle.sets.proofs.Laws.{extensional, member-intersection, member-collect, intersection-lt, collect-lt}
 use Rattle.graph.specs.Tables.{at, table}
 use Rattle.graph.proofs.Tables.{length-table, at-table, table-ext}
 
@@ -23,17 +20,3 @@ pub common-collected : (w s t : ℕ) → s < 2 ^ w → intersection s t ≡ coll
 common-collected w s t h =
     extensional w _ _ (intersection-lt w s t h) (collect-lt w _)
     (λ r l. member-intersection r s t ∙ sym (member-collect r w (λ r. member r s && member r t) ∙ rw (lt-ltb r w l)))
-
--- A number beyond the width takes nothing out of a set.
-pub taken-out : (w s n : ℕ) → s < 2 ^ w → difference s (when (ltb n w) (single n)) ≡ difference s (single n)
-unfolding when
-taken-out w s n h =
-    extensional w _ _ (difference-lt w s _ h) (difference-lt w s _ h)
-    (λ p l. member-difference p s _ ∙ ap (λ (b : Bool). member p s && not b) (kept p l) ∙ sym (member-difference p s (single n)))
-  where
-    kept : (p : ℕ) → p < w → member p (when (ltb n w) (single n)) ≡ member p (single n)
-    kept p l =
-        elim (decLt n w) [
-          | yes k ↦ rw (lt-ltb n w k)
-          | no d ↦ rw (le-ltb n w (omega arith)) (member-empty p ∙ sym (member-single p n ∙ ne-eqb p n (λ e. omega arith)))
-        ]

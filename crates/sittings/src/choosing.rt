@@ -89,7 +89,7 @@ fn decide_exclude<'a>(
             let higher = higher_of(a, b);
             let offer = Offer {
                 lower,
-                higher: sets::insert(0, higher),
+                higher: sets::single(higher),
                 seat: 0,
                 roles: 0,
             };
@@ -99,7 +99,7 @@ fn decide_exclude<'a>(
             }
             let entry = PairEntry {
                 lower,
-                higher: sets::insert(roles_at(pairs, lower), higher),
+                higher: sets::union(roles_at(pairs, lower), sets::single(higher)),
             };
             Chosen {
                 answer: Answer::Accepted,
@@ -138,7 +138,7 @@ fn decide_activate<'a>(
                 lower: 0,
                 higher: 0,
                 seat,
-                roles: sets::insert(0, r),
+                roles: sets::single(r),
             };
             let pair = clash_if_paired(roles, sets, pairs, active, offer);
             if let Found::At(place) = pair {
@@ -146,7 +146,7 @@ fn decide_activate<'a>(
             }
             let entry = SeatEntry {
                 seat,
-                roles: sets::insert(own, r),
+                roles: sets::union(own, sets::single(r)),
             };
             Chosen {
                 answer: Answer::Accepted,
@@ -172,7 +172,7 @@ fn decide_deactivate(roles: u64, active: &[u64], a: Seat, b: Role) -> Chosen
             }
             let entry = SeatEntry {
                 seat,
-                roles: sets::remove(own, r),
+                roles: sets::difference(own, sets::single(r)),
             };
             Chosen {
                 answer: Answer::Accepted,

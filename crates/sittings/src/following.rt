@@ -74,7 +74,7 @@ fn without_role(pairs: &[u64], a: Role) -> [u64; 64]
     let out = a.0 as usize;
     let mut all = [0u64; 64];
     for p in 0..64usize {
-        let row = sets::remove(roles_at(pairs, p), out);
+        let row = sets::difference(roles_at(pairs, p), sets::single(out));
         all[p] = sets::when(p != out, row);
     }
     all

@@ -35,7 +35,7 @@ pub(crate) fn still_reached(roles: u64, sets: &[u64], held: u64, own: u64) -> u6
     while rest != 0 {
         let r = sets::lowest_member(rest) as usize;
         let on = is_reached(roles, sets, held, r);
-        found = sets::union(found, sets::when(on, sets::lowest_alone(rest)));
+        found = sets::union(found, sets::when(on, sets::single(r)));
         rest = sets::without_lowest(rest);
     }
     found

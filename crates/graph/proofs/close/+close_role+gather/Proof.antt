@@ -6,12 +6,13 @@ use native.Mathlib.Omega.{arith}
 use borrow.Author.Needs.{needs}
 use lib.Dec.{T}
 use Rattle.sets.specs.Sets.{member, union}
+use Rattle.sets.proofs.Laws.{known-single}
 use Rattle.graph.specs.Tables.{at}
 use Rattle.graph.specs.Working.{number-below, Memo}
 use Rattle.graph.specs.Reading.{read-set, sets-in}
 use Rattle.graph.specs.Graph.{role-count}
 use Rattle.graph.proofs.Acyclic.{number-below-falls}
-use Rattle.graph.proofs.Loops.{left-lowest, left-falls, left-alone, gathering-done}
+use Rattle.graph.proofs.Loops.{left-lowest, left-falls, gathering-done}
 use Rattle.graph.proofs.ExchangeLoops.{left-in}
 use Rattle.graph.proofs.Memo.{role-closed, Joined, joined-none, joined-next}
 use borrow.Fn.Kinds.{In}
@@ -29,7 +30,7 @@ use Rattle.graph.proofs.privileges.empty.Reads as empty-reads
 use Rattle.graph.proofs.privileges.union.Reads as join-reads
 use Rattle.sets.proofs.lowest_member.Reads as lowest-member-reads
 use Rattle.sets.proofs.member.Reads as member-reads
-use Rattle.sets.proofs.lowest_alone.Reads as lowest-alone-reads
+use Rattle.sets.proofs.single.Reads as single-reads
 use Rattle.sets.proofs.union.Reads as union-reads
 use Rattle.sets.proofs.without_lowest.Reads as without-lowest-reads
 use Rattle.graph.proofs.close.+close_role+gather.{statement}
@@ -56,10 +57,10 @@ abbrev gather-below : ℕ → In 3 gather-kinds.ps
 gather-below t = and 3 gather-kinds.ps (falls 3 gather-kinds.ps _<_ μ-gather t) gather.Pre
 
 abbrev close-role-claims : ℕ → close-role-lts.Claims
-close-role-claims t = (member-reads.Asked, member-reads.Learnt, gather-below t, gather.Post, entry-reads.Asked, entry-reads.Learnt, join-reads.Asked, join-reads.Learnt, store-reads.Asked, store-reads.Learnt, union-reads.Asked, union-reads.Learnt)
+close-role-claims t = (member-reads.Asked, member-reads.Learnt, gather-below t, gather.Post, entry-reads.Asked, entry-reads.Learnt, join-reads.Asked, join-reads.Learnt, store-reads.Asked, store-reads.Learnt, single-reads.Asked, single-reads.Learnt, union-reads.Asked, union-reads.Learnt)
 
 abbrev gather-claims : ℕ → gather-lts.Claims
-gather-claims t = (empty-reads.Asked, empty-reads.Learnt, roles-at-reads.Asked, roles-at-reads.Learnt, lowest-member-reads.Asked, lowest-member-reads.Learnt, lowest-alone-reads.Asked, lowest-alone-reads.Learnt, close-role-below t, close-role.Post, entry-reads.Asked, entry-reads.Learnt, join-reads.Asked, join-reads.Learnt, without-lowest-reads.Asked, without-lowest-reads.Learnt)
+gather-claims t = (empty-reads.Asked, empty-reads.Learnt, roles-at-reads.Asked, roles-at-reads.Learnt, lowest-member-reads.Asked, lowest-member-reads.Learnt, close-role-below t, close-role.Post, entry-reads.Asked, entry-reads.Learnt, join-reads.Asked, join-reads.Learnt, without-lowest-reads.Asked, without-lowest-reads.Learnt)
 
 close-role-member-requires : (t : ℕ) → close-role-lts.Need-member-requires (close-role-claims t) (close-role-at t) close-role.Post
 close-role-member-requires t c κs = tt
@@ -67,12 +68,12 @@ close-role-member-requires t c κs = tt
 close-role-returns : (t : ℕ) → close-role-lts.Need-returns (close-role-claims t) (close-role-at t) close-role.Post
 close-role-returns t c =
     let p = c .before .before in
-    (p .pre .1 .1 .1 .0, (λ n m. m, subst T (sym (c .if1 .taken) ∙ c .before .member .ensures) tt))
+    (p .pre .1 .1 .1, (λ n m. m, subst T (sym (c .if1 .taken) ∙ c .before .member .ensures) tt))
 
 close-role-gather-requires : (t : ℕ) → close-role-lts.Need-gather-requires (close-role-claims t) (close-role-at t) close-role.Post
 close-role-gather-requires t c κs =
     let p = c .before .before .before .pre .1 in
-    (omega arith, (p .0, (p .1 .0, p .1 .1 .0)))
+    (omega arith, (p .0, (p .1 .0, p .1 .1)))
 
 close-role-entry-requires : (t : ℕ) → close-role-lts.Need-entry-requires (close-role-claims t) (close-role-at t) close-role.Post
 close-role-entry-requires t c κs = tt
@@ -83,17 +84,20 @@ close-role-union-requires t c κs = tt
 close-role-store-requires : (t : ℕ) → close-role-lts.Need-store-requires (close-role-claims t) (close-role-at t) close-role.Post
 close-role-store-requires t c κs = tt
 
+close-role-single-requires : (t : ℕ) → close-role-lts.Need-single-requires (close-role-claims t) (close-role-at t) close-role.Post
+close-role-single-requires t c κs = tt
+
 close-role-union-requires-2 : (t : ℕ) → close-role-lts.Need-union-requires-2 (close-role-claims t) (close-role-at t) close-role.Post
 close-role-union-requires-2 t c κs = tt
 
 close-role-returns-2 : (t : ℕ) → close-role-lts.Need-returns-2 (close-role-claims t) (close-role-at t) close-role.Post
 close-role-returns-2 t c =
-    let p = c .before .before .before .before .before .before .before .before .before .before .before in
-    let g = c .before .before .before .before .before .before .before .gather in
-    let kept = c .before .store .ensures in
+    let p = c .before .before .before .before .before .before .before .before .before .before .before .before in
+    let g = c .before .before .before .before .before .before .before .before .gather in
+    let kept = c .before .before .store .ensures in
     let w =
     role-closed (p .args .done) (p .pre .1 .1 .0) (p .pre .1 .0) (g .ensures .0) (g .ensures .1 .0) (g .ensures .1 .1)
-    (c .before .before .union .ensures ∙ ap (λ (d : ℕ). union d (read-set (g .result .set))) (c .before .before .before .entry .ensures)) (p .pre .1 .1 .1 .1) (c .union2 .ensures) in
+    (c .before .before .before .union .ensures ∙ ap (λ (d : ℕ). union d (read-set (g .result .set))) (c .before .before .before .before .entry .ensures)) (known-single (p .pre .1 .0) (c .before .single .ensures)) (c .union2 .ensures) in
     (subst (Memo (sets-in (p .args .directs .now)) (p .args .juniors .now) (c .union2 .result)) (sym kept) (w .0), w .1)
 
 abbrev gather-Inv-loop : gather-lts.InvT-loop
@@ -121,22 +125,19 @@ gather-lowest-member-requires t c κs = tt
 gather-cast-t : (t : ℕ) → gather-lts.Need-cast-t (gather-claims t) (gather-at t) gather.Post gather-Inv-loop gather-μ-loop
 gather-cast-t t c = search needs
 
-gather-lowest-alone-requires : (t : ℕ) → gather-lts.Need-lowest-alone-requires (gather-claims t) (gather-at t) gather.Post gather-Inv-loop gather-μ-loop
-gather-lowest-alone-requires t c κs = tt
-
 gather-below-count : (t : ℕ) (c : gather-lts.After-lowest-member (gather-claims t) (gather-at t) gather.Post gather-Inv-loop gather-μ-loop) → c .lowest-member .result < role-count
 gather-below-count t c = left-lowest (c .before .before .loop .inv .sum .left) (c .before .loop-test .taken) (c .lowest-member .ensures)
 
 gather-close-role-requires : (t : ℕ) → gather-lts.Need-close-role-requires (gather-claims t) (gather-at t) gather.Post gather-Inv-loop gather-μ-loop
 gather-close-role-requires t c κs =
-    let p = c .before .before .before .before .before .before .before .before in
-    let w = c .before .before .before .before .loop .inv in
-    let m = c .before .before .lowest-member in
-    let some = c .before .before .before .loop-test .taken in
-    let below = gather-below-count t (c .before .before) in
+    let p = c .before .before .before .before .before .before .before in
+    let w = c .before .before .before .loop .inv in
+    let m = c .before .lowest-member in
+    let some = c .before .before .loop-test .taken in
+    let below = gather-below-count t (c .before) in
     let junior = w .sum .left .within (m .result) (left-in (w .sum .left) some (m .ensures)) in
     let h = number-below-falls (p .args .juniors .now) (p .pre .1 .1 .0) (m .result) (p .args .r) below (p .pre .1 .0) junior in
-    (omega arith, (below, (p .pre .1 .1 .0, (w .memo, left-alone (w .sum .left) some (c .lowest-alone .ensures) (m .ensures)))))
+    (omega arith, (below, (p .pre .1 .1 .0, w .memo)))
 
 gather-entry-requires : (t : ℕ) → gather-lts.Need-entry-requires (gather-claims t) (gather-at t) gather.Post gather-Inv-loop gather-μ-loop
 gather-entry-requires t c κs = tt
@@ -148,12 +149,12 @@ gather-without-lowest-requires : (t : ℕ) → gather-lts.Need-without-lowest-re
 gather-without-lowest-requires t c κs = tt
 
 gather-loop-less : (t : ℕ) → gather-lts.Need-loop-less (gather-claims t) (gather-at t) gather.Post gather-Inv-loop gather-μ-loop
-gather-loop-less t c = left-falls (c .before .before .before .before .before .before .before .before .before .before .loop .inv .sum .left) (c .before .before .before .before .before .before .before .before .before .loop-test .taken) (c .without-lowest .ensures)
+gather-loop-less t c = left-falls (c .before .before .before .before .before .before .before .before .before .loop .inv .sum .left) (c .before .before .before .before .before .before .before .before .loop-test .taken) (c .without-lowest .ensures)
 
 gather-loop-again : (t : ℕ) → gather-lts.Need-loop-again (gather-claims t) (gather-at t) gather.Post gather-Inv-loop gather-μ-loop
 gather-loop-again t c =
     let k = c .before .before .before .before .before .close-role in
-    joined-next (c .before .before .before .before .before .before .before .before .before .before .loop .inv) (c .before .before .before .before .before .before .before .before .before .loop-test .taken) (c .before .before .before .before .before .before .before .before .lowest-member .ensures)
+    joined-next (c .before .before .before .before .before .before .before .before .before .loop .inv) (c .before .before .before .before .before .before .before .before .loop-test .taken) (c .before .before .before .before .before .before .before .lowest-member .ensures)
     (k .ensures .0) (k .ensures .1 .0) (k .ensures .1 .1) (c .before .union .ensures ∙ ap (union _) (c .before .before .entry .ensures)) (c .without-lowest .ensures)
 
 gather-returns : (t : ℕ) → gather-lts.Need-returns (gather-claims t) (gather-at t) gather.Post gather-Inv-loop gather-μ-loop
@@ -171,6 +172,7 @@ pub +close-role+gather-spec : {M : Type 1} → statement M
     (close-role-entry-requires t)
     (close-role-union-requires t)
     (close-role-store-requires t)
+    (close-role-single-requires t)
     (close-role-union-requires-2 t)
     (close-role-returns-2 t))
     λ t. gather-lts.spec (gather-claims t)
@@ -183,7 +185,6 @@ pub +close-role+gather-spec : {M : Type 1} → statement M
     (gather-loop-holds t)
     (gather-lowest-member-requires t)
     (gather-cast-t t)
-    (gather-lowest-alone-requires t)
     (gather-close-role-requires t)
     (gather-entry-requires t)
     (gather-union-requires t)

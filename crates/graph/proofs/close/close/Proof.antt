@@ -4,7 +4,7 @@ use borrow.Author.Needs.{needs}
 use mathlib.Core.Path.{ap}
 use Rattle.graph.specs.Reading.{sets-in}
 use Rattle.graph.specs.Working.{closed-set}
-use Rattle.graph.proofs.Loops.{left-lowest, left-falls, left-alone}
+use Rattle.graph.proofs.Loops.{left-lowest, left-falls}
 use Rattle.graph.proofs.Memo.{Doing, doing-none, doing-next, doing-done}
 use Rattle.graph.proofs.close.close.Statement.{statement}
 use Rattle.graph.proofs.close.close.Tie as tie
@@ -25,20 +25,20 @@ cast-r c = search needs
 
 close-role-requires : tie.Need-close-role-requires Inv-loop μ-loop
 close-role-requires c κs =
-    let p = c .before .before .before .before .before .before .before in
-    let l = c .before .before .before .before .loop .inv in
-    let some = c .before .before .before .loop-test .taken in
-    let m = c .before .before .lowest-member .ensures in
-    (left-lowest (l .left) some m, (p .pre .ending, (l .memo, left-alone (l .left) some (c .lowest-alone .ensures) m)))
+    let p = c .before .before .before .before .before .before in
+    let l = c .before .before .before .loop .inv in
+    let some = c .before .before .loop-test .taken in
+    let m = c .before .lowest-member .ensures in
+    (left-lowest (l .left) some m, (p .pre .ending, l .memo))
 
 loop-less : tie.Need-loop-less Inv-loop μ-loop
 loop-less c =
-    left-falls (c .before .before .before .before .before .before .loop .inv .left) (c .before .before .before .before .before .loop-test .taken) (c .without-lowest .ensures)
+    left-falls (c .before .before .before .before .before .loop .inv .left) (c .before .before .before .before .loop-test .taken) (c .without-lowest .ensures)
 
 loop-again : tie.Need-loop-again Inv-loop μ-loop
 loop-again c =
     let k = c .before .close-role in
-    doing-next (c .before .before .before .before .before .before .loop .inv) (c .before .before .before .before .before .loop-test .taken) (c .before .before .before .before .lowest-member .ensures) (k .ensures .0) (k .ensures .1 .0) (k .ensures .1 .1) (c .without-lowest .ensures)
+    doing-next (c .before .before .before .before .before .loop .inv) (c .before .before .before .before .loop-test .taken) (c .before .before .before .lowest-member .ensures) (k .ensures .0) (k .ensures .1 .0) (k .ensures .1 .1) (c .without-lowest .ensures)
 
 returns : tie.Need-returns Inv-loop μ-loop
 unfolding closed-set
@@ -55,7 +55,6 @@ close-spec =
     loop-holds
     (λ c κs. tt)
     cast-r
-    (λ c κs. tt)
     close-role-requires
     (λ c κs. tt)
     loop-less

@@ -5,7 +5,7 @@ use mathlib.Core.Path.{_∙_}
 use Rattle.sets.specs.Sets.{strictly-included}
 use Rattle.graph.specs.Tables.{at}
 use Rattle.graph.specs.Reading.{read-set, sets-in}
-use Rattle.graph.proofs.Loops.{left-falls, Collecting, collecting-none, collecting-next, collecting-done}
+use Rattle.graph.proofs.Loops.{left-falls, left-alone, Collecting, collecting-none, collecting-next, collecting-done}
 use Rattle.graph.proofs.drawing.included_in.Statement.{statement}
 use Rattle.graph.proofs.drawing.included_in.Tie as tie
 
@@ -30,8 +30,11 @@ loop-again : tie.Need-loop-again Inv-loop μ-loop
 loop-again c =
     let b = c .before .before .before .before in
     let d = b .before .before in
-    collecting-next (d .before .before .loop .inv) (d .before .loop-test .taken) (d .lowest-member .ensures) (c .without-lowest .ensures)
-    (c .before .union .ensures ∙ rw (c .before .before .when .ensures, b .strictly-included .ensures, b .before .entry .ensures, c .before .before .before .lowest-alone .ensures))
+    let w = d .before .before .loop .inv in
+    let some = d .before .loop-test .taken in
+    let m = d .lowest-member .ensures in
+    collecting-next w some m (c .without-lowest .ensures) (left-alone (w .left) some (c .before .before .before .lowest-alone .ensures) m)
+    (c .before .union .ensures ∙ rw (c .before .before .when .ensures, b .strictly-included .ensures, b .before .entry .ensures))
 
 returns : tie.Need-returns Inv-loop μ-loop
 returns c = collecting-done (c .before .loop .inv) (c .loop-test .left)

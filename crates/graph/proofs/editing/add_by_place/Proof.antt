@@ -8,25 +8,25 @@ use Rattle.graph.proofs.Holding.{add-by-place-holds}
 use Rattle.graph.proofs.editing.add_by_place.Statement.{statement}
 use Rattle.graph.proofs.editing.add_by_place.Tie as tie
 
-cast-only : tie.Need-cast-only
-cast-only c = search needs
+cast-single : tie.Need-cast-single
+cast-single c = search needs
 
 -- The direct set is one of privileges.
-own-lt : (c : tie.After-only) → c .before .before .args .own .word < 2 ^ privilege-count
+own-lt : (c : tie.After-single) → c .before .before .args .own .word < 2 ^ privilege-count
 own-lt c = search needs
 
 returns : tie.Need-returns
 returns c g h e =
     let s = c .before .before .before .before .before in
     let p = s .before .before .before .before .args in
-    add-by-place-holds g (search needs) h (p .a .0) (read-set (p .own)) (p .under) (p .over) (own-lt (s .before .before)) (search needs) (search needs) e (s .before .before .only .ensures) (s .give .ensures)
+    add-by-place-holds g (search needs) h (p .a .0) (read-set (p .own)) (p .under) (p .over) (own-lt (s .before .before)) (search needs) (search needs) e (s .before .before .single .ensures) (s .give .ensures)
     (c .before .before .before .exchange-roles .ensures) (c .before .exchange-roles2 .ensures) (c .union .ensures)
 
 pub add-by-place-spec : {M : Type 1} → statement M
 add-by-place-spec =
     tie.close
     (tie.spec
-    cast-only
+    cast-single
     (λ c κs. tt)
     (λ c κs. tt)
     (λ c κs. tt)

@@ -5,15 +5,15 @@ use Rattle.graph.proofs.Holding.{grant-holds}
 use Rattle.graph.proofs.editing.grant.Statement.{statement}
 use Rattle.graph.proofs.editing.grant.Tie as tie
 
-cast-only : tie.Need-cast-only
-cast-only c = search needs
+cast-single : tie.Need-cast-single
+cast-single c = search needs
 
 returns : tie.Need-returns
 returns c g J h e =
     let p = c .before .before .before .before .before .args in
-    grant-holds g (search needs) h (p .a .0) (p .b .0) e (c .before .before .before .only .ensures) (c .before .before .single .ensures) (c .give .ensures)
+    grant-holds g (search needs) h (p .a .0) (p .b .0) e (c .before .before .before .single .ensures) (c .before .before .single2 .ensures) (c .give .ensures)
 
 pub grant-spec : {M : Type 1} → statement M
 grant-spec =
     tie.close
-    (tie.spec cast-only (λ c κs. tt) (λ c κs. tt) (λ c κs. tt) returns)
+    (tie.spec cast-single (λ c κs. tt) (λ c κs. tt) (λ c κs. tt) returns)

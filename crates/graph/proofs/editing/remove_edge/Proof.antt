@@ -16,7 +16,7 @@ returns c g D h e =
     let n = c .before .before .before .before in
     let s = n .before .before .before .before .before .before in
     let p = s .before .before .before .before .args in
-    remove-edge-holds g (search needs) h (p .a .0) (p .b .0) e (s .before .only .ensures) (s .only2 .ensures) (n .before .before .before .roles-at .ensures) (n .before .before .senior-roles .ensures) (n .seniors-in .ensures)
+    remove-edge-holds g (search needs) h (p .a .0) (p .b .0) e (s .before .single .ensures) (s .single2 .ensures) (n .before .before .before .roles-at .ensures) (n .before .before .senior-roles .ensures) (n .seniors-in .ensures)
     (c .before .before .exchange-roles .ensures) (c .exchange-roles2 .ensures)
 
 pub remove-edge-spec : {M : Type 1} → statement M

@@ -19,7 +19,7 @@ returns c g h e =
     let d = t .before .before .before in
     let s = d .before .before .before .before .before .before in
     let p = s .before .before .before .before .before in
-    remove-role-holds g (p .fits .roles .fits) h (p .args .a .0) _ e (s .before .before .before .only .ensures) (s .before .before .senior-roles .ensures) (s .seniors-in .ensures) (d .before .before .before .entry .ensures) (d .when .ensures ∙ ap (λ (t : Bool). when t (read-set (d .before .before .before .entry .result))) (d .before .hands-up .ensures))
+    remove-role-holds g (p .fits .roles .fits) h (p .args .a .0) _ e (s .before .before .before .single .ensures) (s .before .before .senior-roles .ensures) (s .seniors-in .ensures) (d .before .before .before .entry .ensures) (d .when .ensures ∙ ap (λ (t : Bool). when t (read-set (d .before .before .before .entry .result))) (d .before .hands-up .ensures))
     (t .before .before .give .ensures) (t .take .ensures) (u .roles-at .ensures) (c .before .before .before .exchange-roles .ensures) (c .before .exchange-roles2 .ensures) (c .difference .ensures)
 
 pub remove-role-spec : {M : Type 1} → statement M

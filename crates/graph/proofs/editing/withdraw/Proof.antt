@@ -5,15 +5,15 @@ use Rattle.graph.proofs.Holding.{withdraw-holds}
 use Rattle.graph.proofs.editing.withdraw.Statement.{statement}
 use Rattle.graph.proofs.editing.withdraw.Tie as tie
 
-cast-only : tie.Need-cast-only
-cast-only c = search needs
+cast-single : tie.Need-cast-single
+cast-single c = search needs
 
 returns : tie.Need-returns
 returns c g J h e =
     let p = c .before .before .before .before .before .args in
-    withdraw-holds g (search needs) h (p .a .0) (p .b .0) e (c .before .before .before .only .ensures) (c .before .before .single .ensures) (c .take .ensures)
+    withdraw-holds g (search needs) h (p .a .0) (p .b .0) e (c .before .before .before .single .ensures) (c .before .before .single2 .ensures) (c .take .ensures)
 
 pub withdraw-spec : {M : Type 1} → statement M
 withdraw-spec =
     tie.close
-    (tie.spec cast-only (λ c κs. tt) (λ c κs. tt) (λ c κs. tt) returns)
+    (tie.spec cast-single (λ c κs. tt) (λ c κs. tt) (λ c κs. tt) returns)

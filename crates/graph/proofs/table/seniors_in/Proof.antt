@@ -3,6 +3,7 @@
 use mathlib.Core.Path.{_∙_}
 use borrow.Author.Needs.{needs}
 use Rattle.sets.specs.Sets.{member}
+use Rattle.sets.proofs.Laws.{known-single}
 use Rattle.graph.specs.Tables.{at}
 use Rattle.graph.proofs.Loops.{left-lowest, left-falls, Collecting, collecting-none, collecting-next, collecting-done}
 use Rattle.graph.proofs.table.seniors_in.Statement.{statement}
@@ -33,8 +34,12 @@ loop-less c =
 loop-again : tie.Need-loop-again Inv-loop μ-loop
 unfolding at
 loop-again c =
-    collecting-next (c .before .before .before .before .before .before .before .before .loop .inv) (c .before .before .before .before .before .before .before .loop-test .taken) (c .before .before .before .before .before .before .lowest-member .ensures) (c .without-lowest .ensures)
-    (c .before .union .ensures ∙ rw (c .before .before .when .ensures, c .before .before .before .before .member .ensures, c .before .before .before .lowest-alone .ensures))
+    let l = c .before .before .before .before .before .before in
+    let w = l .before .before .loop .inv in
+    let some = l .before .loop-test .taken in
+    let m = l .lowest-member .ensures in
+    collecting-next w some m (c .without-lowest .ensures) (known-single (left-lowest (w .left) some m) (c .before .before .before .single .ensures))
+    (c .before .union .ensures ∙ rw (c .before .before .when .ensures, c .before .before .before .before .member .ensures))
 
 returns : tie.Need-returns Inv-loop μ-loop
 returns c = collecting-done (c .before .loop .inv) (c .loop-test .left)

@@ -1,12 +1,11 @@
 -- `seats::deciding::decide_assign` meets its contract: each return is the check that it stands for, and what passes them is stored.
 -- Assumes nothing.
 use borrow.Author.Needs.{needs}
-use borrow.Author.Tests.{lt-ltb}
-use mathlib.Core.Bool.{Bool}
 use mathlib.Core.Path.{sym, ap, ap₂, _∙_}
 use Prim.Native.Nat.{ℕ}
 use lib.ListN.{set}
-use Rattle.sets.specs.Sets.{member, single, union, when}
+use Rattle.sets.specs.Sets.{member, union}
+use Rattle.sets.proofs.Laws.{known-single}
 use Rattle.graph.specs.Graph.{effective, present}
 use Rattle.graph.specs.Tables.{put}
 use Rattle.graph.specs.Reading.{read-verdict}
@@ -75,17 +74,17 @@ returns-3 c =
     ∙ sym (refused-by s (assign (g .a .0) (g .b .0)) (sym (refused-first (seat-role-checks (s .graph) (g .a .0) (g .b .0)) (assign-late s (g .a .0) (g .b .0)) (c .before .before .before .before .judge-seat .ensures) told) ∙ ap read-verdict told))
 
 returns-4 : tie.Need-returns-4
-unfolding read-verdict read-answer present checks assigned reply after with-seats stored put pair-seat held effective when
+unfolding read-verdict read-answer present checks assigned reply after with-seats stored put pair-seat held effective
 returns-4 c =
-    let q = c .before .before .before in
+    let q = c .before .before .before .before in
     let g = q .before .before .before .before .before .before .before .before .before .before .before .before .args in
     let s = state-of (g .roles) (g .sets .now) (g .conflicts .now) (g .seats .now) in
     let m = q .before .before in
     let told = m .before .before .before .before .enum-told .given .1 in
     let j = m .before .before .before .before .before .before .judge-seat .ensures in
     let n = seat-numbers (s .graph) (g .a .0) (g .b .0) (sym j ∙ ap read-verdict told) in
-    ap (λ (x : ℕ). (accepted, with-seats s (set (s .seats) (g .a .0) x))) (c .insert .ensures ∙ ap₂ union (m .before .roles-at .ensures) (ap (λ (t : Bool). when t (single (g .b .0))) (lt-ltb _ _ (n .1))))
-    ∙ sym (passed-by s (assign (g .a .0) (g .b .0)) (passed-first (seat-role-checks (s .graph) (g .a .0) (g .b .0)) (assign-late s (g .a .0) (g .b .0)) j told ∙ moves-on _ _ (ap (member _) (sym (m .before .roles-at .ensures)) ∙ sym (m .member .ensures) ∙ q .before .if1 .left) ∙ moves-on _ _ (place-none _ _ (q .pair-seat-after .ensures) (c .before .enum-told2 .given .1)) ∙ sym ends))
+    ap (λ (x : ℕ). (accepted, with-seats s (set (s .seats) (g .a .0) x))) (c .union .ensures ∙ ap₂ union (m .before .roles-at .ensures) (known-single (n .1) (c .before .single .ensures)))
+    ∙ sym (passed-by s (assign (g .a .0) (g .b .0)) (passed-first (seat-role-checks (s .graph) (g .a .0) (g .b .0)) (assign-late s (g .a .0) (g .b .0)) j told ∙ moves-on _ _ (ap (member _) (sym (m .before .roles-at .ensures)) ∙ sym (m .member .ensures) ∙ q .before .if1 .left) ∙ moves-on _ _ (place-none _ _ (q .pair-seat-after .ensures) (c .before .before .enum-told2 .given .1)) ∙ sym ends))
 
 pub decide-assign-spec : {M : Type 1} → statement M
 decide-assign-spec =
@@ -108,6 +107,7 @@ decide-assign-spec =
     (λ c κs. tt)
     returns-2
     enum-told-2
+    (λ c κs. tt)
     (λ c κs. tt)
     returns-3
     returns-4)

@@ -1,12 +1,13 @@
 -- `seats::deciding::decide_unassign` meets its contract: each return is the check that it stands for, and what passes them is stored.
 -- Assumes nothing.
 use borrow.Author.Needs.{needs}
-use borrow.Author.Tests.{lt-ltb, not-true, not-false}
-use mathlib.Core.Bool.{Bool, not}
+use borrow.Author.Tests.{not-true, not-false}
+use mathlib.Core.Bool.{not}
 use mathlib.Core.Path.{sym, ap, ap₂, _∙_}
 use Prim.Native.Nat.{ℕ}
 use lib.ListN.{set}
-use Rattle.sets.specs.Sets.{member, single, difference, when}
+use Rattle.sets.specs.Sets.{member, difference}
+use Rattle.sets.proofs.Laws.{known-single}
 use Rattle.graph.specs.Graph.{present}
 use Rattle.graph.specs.Tables.{take-out}
 use Rattle.graph.specs.Reading.{read-verdict}
@@ -53,16 +54,16 @@ returns-2 c =
     ∙ sym (refused-by s (unassign (g .a .0) (g .b .0)) (sym (refused-first (seat-role-checks (s .graph) (g .a .0) (g .b .0)) (unassign-late s (g .a .0) (g .b .0)) (c .before .before .before .before .judge-seat .ensures) told) ∙ ap read-verdict told))
 
 returns-3 : tie.Need-returns-3
-unfolding read-verdict read-answer present checks assigned reply after with-seats stored take-out when
+unfolding read-verdict read-answer present checks assigned reply after with-seats stored take-out
 returns-3 c =
-    let g = c .before .before .before .before .before .before .before .before .before .before .before .before .args in
+    let g = c .before .before .before .before .before .before .before .before .before .before .before .before .before .args in
     let s = state-of (g .roles) (g .sets .now) (g .conflicts .now) (g .seats .now) in
-    let m = c .before .before in
+    let m = c .before .before .before in
     let told = m .before .before .before .before .enum-told .given .1 in
     let j = m .before .before .before .before .before .before .judge-seat .ensures in
     let n = seat-numbers (s .graph) (g .a .0) (g .b .0) (sym j ∙ ap read-verdict told) in
-    ap (λ (x : ℕ). (accepted, with-seats s (set (s .seats) (g .a .0) x))) (c .remove .ensures ∙ ap₂ difference (m .before .roles-at .ensures) (ap (λ (t : Bool). when t (single (g .b .0))) (lt-ltb _ _ (n .1))))
-    ∙ sym (passed-by s (unassign (g .a .0) (g .b .0)) (passed-first (seat-role-checks (s .graph) (g .a .0) (g .b .0)) (unassign-late s (g .a .0) (g .b .0)) j told ∙ moves-on _ _ (ap not (ap (member _) (sym (m .before .roles-at .ensures)) ∙ sym (m .member .ensures) ∙ not-false _ (c .before .if1 .left))) ∙ sym ends))
+    ap (λ (x : ℕ). (accepted, with-seats s (set (s .seats) (g .a .0) x))) (c .difference .ensures ∙ ap₂ difference (m .before .roles-at .ensures) (known-single (n .1) (c .before .single .ensures)))
+    ∙ sym (passed-by s (unassign (g .a .0) (g .b .0)) (passed-first (seat-role-checks (s .graph) (g .a .0) (g .b .0)) (unassign-late s (g .a .0) (g .b .0)) j told ∙ moves-on _ _ (ap not (ap (member _) (sym (m .before .roles-at .ensures)) ∙ sym (m .member .ensures) ∙ not-false _ (c .before .before .if1 .left))) ∙ sym ends))
 
 pub decide-unassign-spec : {M : Type 1} → statement M
 decide-unassign-spec =
@@ -79,6 +80,7 @@ decide-unassign-spec =
     (λ c κs. tt)
     (λ c κs. tt)
     returns
+    (λ c κs. tt)
     (λ c κs. tt)
     returns-2
     returns-3)

@@ -2,7 +2,7 @@
 -- Assumes nothing.
 use borrow.Author.Needs.{needs}
 use borrow.Author.Tests.{not-true, not-false}
-use mathlib.Core.Path.{_≡_, sym, _∙_, subst}
+use mathlib.Core.Path.{_≡_, sym, ap, _∙_, subst}
 use mathlib.Core.Bool.{true, _&&_}
 use Prim.Native.Nat.{ℕ}
 use native.Mathlib.Omega.{arith}
@@ -40,13 +40,13 @@ returns-2 : tie.Need-returns-2
 unfolding entry-place entry-passes pair-place
 returns-2 c present =
     let s = c .before .before in
-    let e = s .before .before .before .before in
+    let e = s .before .before .before .before .before in
     let a = e .before .before .before in
     let h = a .before .wide2 .ensures in
     let l = a .before .before .before .wide .ensures in
     let v = h .0 ∙ one-byte _ _ in
     let t = sym (a .admits-pair .ensures) ∙ not-false _ (e .before .before .if1 .left) in
-    let n = put-alone (a .before .before .before .before .before .before .before .args .low) _ (a .before .before .before .wide .result) (a .before .wide2 .result) _ t (rw (sym (h .0)) at (s .before .insert .ensures)) in
+    let n = put-alone (a .before .before .before .before .before .before .before .args .low) _ (a .before .before .before .wide .result) (a .before .wide2 .result) _ t (s .before .union .ensures ∙ ap (union _) (rw (sym (h .0)) at (s .before .before .single .ensures))) in
     entry-passed Conflicts present _ _ _ _ (rw (l .0, v) at t) (rw (l .0, v)) (let x = l .1 in let y = h .1 in omega arith)
     (λ held m. rw (s .store .ensures, n, e .entry .ensures, v, l .0) (conflict-stored held _ m _ _))
 
@@ -67,6 +67,7 @@ read-conflict-spec =
     (λ c κs. tt)
     (λ c. search needs)
     (λ c. search needs)
+    (λ c κs. tt)
     (λ c κs. tt)
     (λ c κs. tt)
     (λ c. search needs)

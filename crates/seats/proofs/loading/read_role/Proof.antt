@@ -1,15 +1,15 @@
 -- `seats::loading::read_role` meets its contract: a number that passes gets its set, and is a role.
 -- Assumes nothing.
 use borrow.Author.Needs.{needs}
-use borrow.Author.Tests.{not-true, not-false, lt-ltb}
+use borrow.Author.Tests.{not-true, not-false}
 use mathlib.Core.Path.{_≡_, sym, _∙_, subst}
 use mathlib.Core.Bool.{true, not, _&&_}
 use Prim.Native.Nat.{ℕ}
 use native.Mathlib.Omega.{arith}
-use lib.Bits.{or-zero-l}
 use lib.Dec.{T, T-not, leb, ltb}
-use Rattle.sets.specs.Sets.{empty, union, when, single}
+use Rattle.sets.specs.Sets.{when, single}
 use Rattle.sets.proofs.Tests.{both}
+use Rattle.sets.proofs.Laws.{known-single}
 use Rattle.graph.specs.Graph.{role-count}
 use Rattle.seats.specs.Images.{no-ordinary-number}
 use Rattle.seats.specs.ImageWork.{Roles, entry-of, entry-place, entry-passes}
@@ -18,13 +18,12 @@ use Rattle.seats.proofs.EntryReading.{role-stored, entry-refused, entry
 use Rattle.seats.proofs.loading.read_role.Statement.{statement}
 use Rattle.seats.proofs.loading.read_role.Tie as tie
 
--- A number that passes is a role's, so that joining it to nothing gives the set of it alone.
-alone : (low k : ℕ) {one : ℕ} → leb low k && not (no-ordinary-number (entry-of k 0)) ≡ true → one ≡ union empty (when (ltb k role-count) (single k)) → one ≡ single k
-unfolding union when
+-- A number that passes is a role's, so that what is made of it is the set of it alone.
+alone : (low k : ℕ) {one : ℕ} → leb low k && not (no-ordinary-number (entry-of k 0)) ≡ true → one ≡ when (ltb k role-count) (single k) → one ≡ single k
 alone low k t q =
     let e = entry-of k 0 in
     let h = role-number e (T-not (no-ordinary-number e) (both (leb low k) (not (no-ordinary-number e)) (subst T (sym t) tt) .1)) .1 in
-    q ∙ rw (lt-ltb k role-count h) (or-zero-l (single k))
+    known-single h q
 
 returns : tie.Need-returns
 unfolding entry-place entry-passes no-ordinary-number
@@ -40,7 +39,7 @@ returns-2 c present =
     let a = s .before .before .before .before in
     let w = a .before .wide .ensures in
     let t = sym (a .admits-role .ensures) ∙ not-false _ (s .before .before .before .if1 .left) in
-    let o = alone (a .before .before .before .before .before .args .low) (a .before .wide .result) t (c .insert .ensures) in
+    let o = alone (a .before .before .before .before .before .args .low) (a .before .wide .result) t (c .single .ensures) in
     entry-passed Roles present _ _ _ _ (rw (w .0) at t) (w .0) (let l = w .1 in omega arith)
     (λ held l. rw (s .store .ensures, s .before .set-at .ensures, o, w .0) (role-stored held _ l _ _))
 

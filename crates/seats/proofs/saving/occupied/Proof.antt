@@ -6,10 +6,8 @@ use mathlib.Core.Path.{_≡_, refl, ap, ap₂, _∙_}
 use Prim.Native.Nat.{ℕ, _+_, _-_, _≤_, _<_}
 use native.Mathlib.Numerals.{add-one}
 use native.Mathlib.Omega.{arith}
-use borrow.Author.Tests.{lt-ltb}
-use lib.Bits.{or-zero-l}
-use lib.Dec.{ltb}
-use Rattle.sets.specs.Sets.{empty, single, when, union, collect}
+use Rattle.sets.specs.Sets.{single, when, union, collect}
+use Rattle.sets.proofs.Laws.{known-single}
 use Rattle.seats.specs.Seats.{seat-count}
 use Rattle.seats.proofs.StoredEntries.{filled}
 use Rattle.seats.proofs.saving.occupied.Statement.{statement}
@@ -30,11 +28,6 @@ loop-holds : tie.Need-loop-holds Inv-loop μ-loop
 unfolding collect
 loop-holds c = (search needs, refl)
 
--- A seat's number joined to nothing is the set of it alone.
-alone : (i : ℕ) {one : ℕ} → i < seat-count → one ≡ union empty (when (ltb i seat-count) (single i)) → one ≡ single i
-unfolding union when
-alone i h q = q ∙ rw (lt-ltb i seat-count h) (or-zero-l (single i))
-
 add-i : tie.Need-add-i Inv-loop μ-loop
 add-i c = search needs
 
@@ -46,7 +39,7 @@ loop-again c =
     let e = c .before .before .before in
     let b = e .before .before in
     let f = filled (b .before .before .args .seats .now) in
-    (search needs, grown f _ (b .loop .inv .1) (c .before .when .ensures ∙ rw (e .roles-at .ensures, alone _ (e .before .loop-test .taken) (c .before .before .insert .ensures))) (c .union .ensures))
+    (search needs, grown f _ (b .loop .inv .1) (c .before .when .ensures ∙ rw (e .roles-at .ensures, known-single {w = seat-count} (e .before .loop-test .taken) (c .before .before .single .ensures))) (c .union .ensures))
 
 returns : tie.Need-returns Inv-loop μ-loop
 returns c =

@@ -13,15 +13,15 @@ use Rattle.graph.specs.Reading.{sets-in}
 use Rattle.graph.specs.Searching.{lowest-found}
 use Rattle.graph.proofs.Searches.{found-cong}
 use Rattle.seats.specs.Seats.{seat-count, assigned, held, pair-seat}
-use Rattle.seats.proofs.Requests.{empty-union, joint, joint-put}
+use Rattle.seats.proofs.Requests.{joint, joint-put}
 use Rattle.seats.proofs.searches.pair_seat_after.Statement.{statement}
 use Rattle.seats.proofs.searches.pair_seat_after.Tie as tie
 
 cast-i : tie.Need-cast-i
 cast-i c = search needs
 
-cast-insert : tie.Need-cast-insert
-cast-insert c = search needs
+cast-single : tie.Need-cast-single
+cast-single c = search needs
 
 returns : tie.Need-returns
 unfolding pair-seat held assigned effective
@@ -29,10 +29,10 @@ returns c =
     let g = c .before .before .before .before .before .before .before .before .args in
     c .pair-seat-with .ensures
     ∙ ap (λ (added : ℕ). lowest-found seat-count (λ i. holds-pair (sets-in (g .conflicts .now)) (joint (sets-in (g .sets .now)) (union (at (g .seats .now) i) (when (eqb i (g .a .0)) added)))))
-    (c .before .when .ensures ∙ ap (when (ltb (g .a .0) (length (g .seats .now)))) (c .before .before .insert .ensures ∙ empty-union _))
+    (c .before .when .ensures ∙ ap (when (ltb (g .a .0) (length (g .seats .now)))) (c .before .before .single .ensures))
     ∙ found-cong seat-count _ _ (λ i h. ap (holds-pair (sets-in (g .conflicts .now))) (joint-put (sets-in (g .sets .now)) (g .seats .now) (g .a .0) (g .b .0) i))
 
 pub pair-seat-after-spec : {M : Type 1} → statement M
 pair-seat-after-spec =
     tie.close
-    (tie.spec cast-i cast-insert (λ c κs. tt) (λ c κs. tt) (λ c κs. tt) returns)
+    (tie.spec cast-i cast-single (λ c κs. tt) (λ c κs. tt) (λ c κs. tt) returns)

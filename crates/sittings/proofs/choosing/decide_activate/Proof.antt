@@ -52,7 +52,7 @@ offered : (k : tie.After-clash-if-paired) (C : List ℕ) → (
     read-found (k .clash-if-paired .result) ≡ lowest-found role-count (clashing (sitting-of (state-of (g .roles) (g .sets .now) C (g .seats .now)) (g .pairs .now) (put (g .active .now) (g .a .0) (g .b .0)))))
 offered k C =
     let g = k .before .before .before .before .before .before .before .before .before .before .before .before .before .before .before .before .before .args in
-    clash-found (g .roles) (g .sets .now) C (g .seats .now) (k .clash-if-paired .ensures) (joined-none (g .pairs .now) 0) (put-offered (g .active .now) (number k) refl refl (k .before .insert .ensures))
+    clash-found (g .roles) (g .sets .now) C (g .seats .now) (k .clash-if-paired .ensures) (joined-none (g .pairs .now) 0) (put-offered (g .active .now) (number k) refl refl (k .before .single .ensures))
 
 returns : tie.Need-returns
 unfolding present is-active
@@ -109,18 +109,18 @@ returns-4 c C =
 returns-5 : tie.Need-returns-5
 unfolding present is-active after reply read-answer stored
 returns-5 c C =
-    let k = c .before .before .before in
+    let k = c .before .before .before .before in
     let y = k .before .before .before in
     let m = y .before .before .before in
     let j = m .before .before .before .before .before .before in
     let g = j .before .before .before .before .before .args in
     let z = sitting-of (state-of (g .roles) (g .sets .now) C (g .seats .now)) (g .pairs .now) (g .active .now) in
     ap (λ (A : List ℕ). (accepted, sitting-of (z .state) (z .pairs) A))
-    (put-stored (g .active .now) (number k) refl refl (m .before .roles-at .ensures) (c .insert2 .ensures))
+    (put-stored (g .active .now) (number k) refl refl (m .before .roles-at .ensures) (c .before .single2 .ensures) (c .union .ensures))
     ∙ none-refuses (activate-parts z (g .a .0) (g .b .0)) (j .judge-seat .ensures) (m .before .before .before .before .enum-told .given .1)
     (moves-on _ _ (sym (own m) ∙ y .before .before .if1 .left)
     ∙ moves-on _ _ (ap not (sym (reached y C) ∙ not-false _ (k .before .before .if2 .left)))
-    ∙ moves-on _ _ (place-none _ _ (offered k C) (c .before .enum-told2 .given .1))
+    ∙ moves-on _ _ (place-none _ _ (offered k C) (c .before .before .enum-told2 .given .1))
     ∙ sym ends)
 
 pub decide-activate-spec : {M : Type 1} → statement M
@@ -150,6 +150,7 @@ decide-activate-spec =
     (λ c κs. tt)
     returns-3
     (λ c. search needs)
+    (λ c κs. tt)
     (λ c κs. tt)
     returns-4
     returns-5)

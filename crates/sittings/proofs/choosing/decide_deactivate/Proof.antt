@@ -1,12 +1,13 @@
 -- `sittings::choosing::decide_deactivate` meets its contract: each return is the check that it stands for, and what passes them is stored.
 -- Assumes nothing.
 use borrow.Author.Needs.{needs}
-use borrow.Author.Tests.{lt-ltb, not-true, not-false}
-use mathlib.Core.Bool.{Bool, not}
+use borrow.Author.Tests.{not-true, not-false}
+use mathlib.Core.Bool.{not}
 use mathlib.Core.Path.{sym, ap, ap₂, _∙_}
 use Prim.Native.Nat.{ℕ}
 use lib.ListN.{set}
-use Rattle.sets.specs.Sets.{member, single, difference, when}
+use Rattle.sets.specs.Sets.{member, difference}
+use Rattle.sets.proofs.Laws.{known-single}
 use Rattle.graph.specs.Tables.{take-out}
 use Rattle.graph.specs.Graph.{present}
 use Rattle.graph.specs.Reading.{read-verdict}
@@ -43,18 +44,18 @@ returns-2 c S C W P =
     ∙ first-refuses (deactivate-parts z (g .a .0) (g .b .0)) (j .judge-seat .ensures) (c .before .before .verdict .given .1)
 
 returns-3 : tie.Need-returns-3
-unfolding present is-active after reply read-verdict read-answer stored take-out when
+unfolding present is-active after reply read-verdict read-answer stored take-out
 returns-3 c S C W P =
-    let m = c .before .before in
+    let m = c .before .before .before in
     let j = m .before .before .before .before .before .before in
     let g = j .before .before .args in
     let z = sitting-of (state-of (g .roles) S C W) P (g .active .now) in
     let told = m .before .before .before .before .enum-told .given .1 in
     let n = seat-numbers (z .state .graph) (g .a .0) (g .b .0) (sym (j .judge-seat .ensures) ∙ ap read-verdict told) in
     ap (λ (s : ℕ). (accepted, sitting-of (z .state) P (set (g .active .now) (g .a .0) s)))
-    (c .remove .ensures ∙ ap₂ difference (m .before .roles-at .ensures) (ap (λ (t : Bool). when t (single (g .b .0))) (lt-ltb _ _ (n .1))))
+    (c .difference .ensures ∙ ap₂ difference (m .before .roles-at .ensures) (known-single (n .1) (c .before .single .ensures)))
     ∙ none-refuses (deactivate-parts z (g .a .0) (g .b .0)) (j .judge-seat .ensures) told
-    (moves-on _ _ (ap not (ap (member _) (sym (m .before .roles-at .ensures)) ∙ sym (m .member .ensures) ∙ not-false _ (c .before .if1 .left))) ∙ sym ends)
+    (moves-on _ _ (ap not (ap (member _) (sym (m .before .roles-at .ensures)) ∙ sym (m .member .ensures) ∙ not-false _ (c .before .before .if1 .left))) ∙ sym ends)
 
 pub decide-deactivate-spec : {M : Type 1} → statement M
 decide-deactivate-spec =
@@ -71,6 +72,7 @@ decide-deactivate-spec =
     (λ c κs. tt)
     (λ c κs. tt)
     returns
+    (λ c κs. tt)
     (λ c κs. tt)
     returns-2
     returns-3)

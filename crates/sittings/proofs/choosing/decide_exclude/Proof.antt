@@ -35,7 +35,7 @@ unfolding declare
 offered k C W =
     let g = k .before .before .before .before .before .before .before .before .before .before .before .before .args in
     clash-found (g .roles) (g .sets .now) C W (k .clash .ensures)
-    (put-offered (g .pairs .now) (numbers k) (k .before .before .before .lower-of .ensures) (k .before .before .higher-of .ensures) (k .before .insert .ensures))
+    (put-offered (g .pairs .now) (numbers k) (k .before .before .before .lower-of .ensures) (k .before .before .higher-of .ensures) (k .before .single .ensures))
     (joined-none (g .active .now) 0)
 
 returns : tie.Need-returns
@@ -77,15 +77,15 @@ returns-3 c C W =
 returns-4 : tie.Need-returns-4
 unfolding present excluded after reply read-answer stored declare
 returns-4 c C W =
-    let k = c .before .before .before .before in
+    let k = c .before .before .before .before .before in
     let x = k .before .before .before .before .before in
     let j = x .before .before .before in
     let g = j .before .before .before .before .args in
     let z = sitting-of (state-of (g .roles) (g .sets .now) C W) (g .pairs .now) (g .active .now) in
     ap (λ (P : List ℕ). (accepted, sitting-of (z .state) P (z .active)))
-    (put-stored (g .pairs .now) (numbers k) (k .before .before .before .lower-of .ensures) (k .before .before .higher-of .ensures) (c .before .roles-at .ensures) (c .insert2 .ensures))
+    (put-stored (g .pairs .now) (numbers k) (k .before .before .before .lower-of .ensures) (k .before .before .higher-of .ensures) (c .before .before .roles-at .ensures) (c .before .single2 .ensures) (c .union .ensures))
     ∙ none-refuses (exclude-parts z (g .a .0) (g .b .0)) (j .judge-two-roles .ensures) (x .before .enum-told .given .1)
-    (moves-on _ _ (sym (x .is-excluded .ensures) ∙ k .before .before .before .before .if1 .left) ∙ moves-on _ _ (place-none _ _ (offered k C W) (c .before .before .enum-told2 .given .1)) ∙ sym ends)
+    (moves-on _ _ (sym (x .is-excluded .ensures) ∙ k .before .before .before .before .if1 .left) ∙ moves-on _ _ (place-none _ _ (offered k C W) (c .before .before .before .enum-told2 .given .1)) ∙ sym ends)
 
 pub decide-exclude-spec : {M : Type 1} → statement M
 decide-exclude-spec =
@@ -108,6 +108,7 @@ decide-exclude-spec =
     (λ c κs. tt)
     returns-2
     (λ c. search needs)
+    (λ c κs. tt)
     (λ c κs. tt)
     (λ c κs. tt)
     returns-3

@@ -6,8 +6,8 @@ use mathlib.Core.Path.{ap, _∙_, refl}
 use Prim.Native.Nat.{ℕ, _-_}
 use lib.Dec.{eqb}
 use Rattle.sets.specs.Sets.{single, difference, when}
+use Rattle.sets.proofs.Laws.{taken-out}
 use Rattle.sittings.specs.Calls.{without-role}
-use Rattle.sittings.proofs.FilledTables.{taken-out}
 use native.Mathlib.Omega.{arith}
 use Rattle.graph.specs.Tables.{at}
 use Rattle.graph.specs.Graph.{role-count}
@@ -38,14 +38,15 @@ loop-less c = omega arith
 
 loop-again : tie.Need-loop-again Inv-loop μ-loop
 loop-again c =
-    let k = c .before .before .before .before in
+    let k = c .before .before .before .before .before in
     let out = k .before .before .before .args .a .0 in
     filled-next (k .loop .inv) (omega arith)
     (c .when .ensures
     ∙ ap (when (not (eqb (k .loop .p) out)))
-    (c .before .remove .ensures
-    ∙ taken-out role-count (c .before .before .roles-at .result) out (search needs)
-    ∙ ap (λ (s : ℕ). difference s (single out)) (c .before .before .roles-at .ensures)))
+    (c .before .difference .ensures
+    ∙ ap (difference _) (c .before .before .single .ensures)
+    ∙ taken-out role-count (c .before .before .before .roles-at .result) out (search needs)
+    ∙ ap (λ (s : ℕ). difference s (single out)) (c .before .before .before .roles-at .ensures)))
 
 returns : tie.Need-returns Inv-loop μ-loop
 unfolding without-role
@@ -59,6 +60,7 @@ without-role-spec =
     μ-loop
     (λ c. search needs)
     loop-holds
+    (λ c κs. tt)
     (λ c κs. tt)
     (λ c κs. tt)
     (λ c κs. tt)

@@ -2,8 +2,9 @@
 -- Assumes nothing.
 use borrow.Author.Needs.{needs}
 use mathlib.Core.Path.{_∙_}
+use Rattle.sets.proofs.Laws.{known-single}
 use Rattle.graph.specs.Reading.{drawn-from}
-use Rattle.graph.proofs.Loops.{left-falls, Collecting, collecting-none, collecting-next, collecting-done}
+use Rattle.graph.proofs.Loops.{left-lowest, left-falls, Collecting, collecting-none, collecting-next, collecting-done}
 use Rattle.sittings.specs.Sittings.{reaches}
 use Rattle.sittings.proofs.reaching.still_reached.Statement.{statement}
 use Rattle.sittings.proofs.reaching.still_reached.Tie as tie
@@ -29,8 +30,11 @@ loop-again : tie.Need-loop-again Inv-loop μ-loop
 loop-again c =
     let b = c .before .before .before .before in
     let d = b .before in
-    collecting-next (d .before .before .loop .inv) (d .before .loop-test .taken) (d .lowest-member .ensures) (c .without-lowest .ensures)
-    (c .before .union .ensures ∙ rw (c .before .before .when .ensures, b .is-reached .ensures, c .before .before .before .lowest-alone .ensures))
+    let w = d .before .before .loop .inv in
+    let some = d .before .loop-test .taken in
+    let m = d .lowest-member .ensures in
+    collecting-next w some m (c .without-lowest .ensures) (known-single (left-lowest (w .left) some m) (c .before .before .before .single .ensures))
+    (c .before .union .ensures ∙ rw (c .before .before .when .ensures, b .is-reached .ensures))
 
 returns : tie.Need-returns Inv-loop μ-loop
 returns c = collecting-done (c .before .loop .inv) (c .loop-test .left)
