@@ -4,6 +4,9 @@
 // A tape's lines are those of its parts and its last line that of the whole (`printed-parts`), so together they are what document 01 has printed.
 // Trusted: that `read` and `write` move the bytes as their pages say. No contract can speak of what is read or written, so the order of the calls is seen in the code.
 // Where reading or writing fails, or 64 bits do not hold the number of records, the reason goes to standard error, and neither a further line nor the last line is written. A program's exit status is always 0, so a missing last line is the sign.
+
+#![tactic(auto)]
+
 ghost use Rattle.std.specs.Prelude.{true, List, ◌≡◌, ℕ};
 ghost use Rattle.seats.specs.Tape.{fed};
 ghost use Rattle.sittings.specs.Records.{step};

@@ -1,7 +1,7 @@
 -- What the drawing code computes is what the definitions say: the order by a few tests, the roles below and above, the drawn edges and the direct sets.
 -- Assumes nothing.
 use mathlib.Core.Path.{◌≡◌, refl, sym, ap, ap₂, ◌∙◌, subst}
-use mathlib.Core.Bool.{Bool, true, false, cond, not, ◌&&◌, ◌||◌, and_true, and-false, or-true, or-false, and_comm}
+use mathlib.Core.Bool.{Bool, true, false, cond, not, ◌&&◌, ◌||◌, and-true, and-false, or-true, or-false, and_comm}
 use mathlib.Core.Logic.{◌≢◌, ◌⊎◌, inl, inr}
 use mathlib.Core.List.{List}
 use Prim.Native.Nat.{ℕ, ◌<◌, ◌^◌}
@@ -136,7 +136,7 @@ module _ (g : Graph) (h : g.roles < 2 ^ role_count) where
 
   pub below_top : union (difference g.roles end_roles) min_alone ≡ roles_below g max_role
   unfolding single
-  below_top = equal_members _ _ (λ n. member_with g min_role n ∙ sym (below_member n max_role ∙ below_tests g n max_role ∙ rw (or-true, and_true)))
+  below_top = equal_members _ _ (λ n. member_with g min_role n ∙ sym (below_member n max_role ∙ below_tests g n max_role ∙ rw (or-true, and-true)))
 
   pub below_ordinary : (s : ℕ) → T (ordinary g s)
       → union (collect role_count (λ r. member r (difference g.roles end_roles) && strictly_included (effective g r) (effective g s))) min_alone ≡ roles_below g s

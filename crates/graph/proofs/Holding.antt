@@ -1,7 +1,7 @@
 -- Tables that hold a drawing: those that drawing gives hold the drawn graph, and after each kind's edit they hold the edited one.
 -- Assumes nothing.
 use mathlib.Core.Path.{◌≡◌, refl, sym, ap, ap₂, ◌∙◌, subst}
-use mathlib.Core.Bool.{Bool, true, false, not, ◌&&◌, ◌||◌, or-false, or_assoc, and_true, and-false}
+use mathlib.Core.Bool.{Bool, true, false, not, ◌&&◌, ◌||◌, or-false, or_assoc, and-true, and-false}
 use mathlib.Core.Logic.{inl, inr}
 use mathlib.Core.List.{List, ◌++◌}
 use Prim.Native.Nat.{ℕ, ◌<◌, ◌^◌}
@@ -70,7 +70,7 @@ module _ (l : List ℕ) (into out put : ℕ) {m : List ℕ} (e : m ≡ exchanged
 
 -- The same where nothing is taken away, and where nothing is joined.
 joined-member : (l : List ℕ) (into put : ℕ) {m : List ℕ} → m ≡ exchanged l into 0 put → (t r : ℕ) → r < role_count → member t (at m r) ≡ member t (at l r) || (member r into && member t put)
-joined-member l into put e t r k = exchanged_member l into 0 put e t r k ∙ simp (member-empty, and-false, and_true)
+joined-member l into put e t r k = exchanged_member l into 0 put e t r k ∙ simp (member-empty, and-false, and-true)
 
 taken_member : (l : List ℕ) (into out : ℕ) {m : List ℕ} → m ≡ exchanged l into out 0 → (t r : ℕ) → r < role_count → member t (at m r) ≡ member t (at l r) && not (member r into && member t out)
 taken_member l into out e t r k = exchanged_member l into out 0 e t r k ∙ simp (member-empty, and-false, or-false)
@@ -121,7 +121,7 @@ module _ (g : Graph) (h : g.roles < 2 ^ role_count) where
 left_over : (x e y q a : Bool) → (T q → x ≡ e) → (T q → y ≡ false) → (T a → x ≡ y) → ((x && not (e && q)) || (e && y)) && not (a && y) ≡ not a && ((x || (e && y)) && not q)
 left_over x e true q true s z w = and-false ((x && not (e && q)) || (e && true))
 left_over x e false q true s z w = rw (w tt, and-false e)
-left_over x e y false false s z w = rw (and-false e, and_true x, and_true (x || (e && y)))
+left_over x e y false false s z w = rw (and-false e, and-true x, and-true (x || (e && y)))
 left_over x true y true false s z w = rw (s tt, z tt)
 left_over x false y true false s z w = rw (s tt)
 
@@ -129,8 +129,8 @@ left_over x false y true false s z w = rw (s tt)
 handed_on : (x e o y a : Bool) → (T a → x ≡ y) → (x || (e && (o && y))) && not (a && y) ≡ not a && (x || ((o && e) && y))
 handed_on x e o true true w = and-false (x || (e && (o && true)))
 handed_on x e o false true w = rw (w tt, and-false o, and-false e)
-handed_on x true o y false w = rw (and_true (x || (o && y)), and_true o)
-handed_on x false o y false w = rw (or-false x, and_true x, and-false o, or-false x)
+handed_on x true o y false w = rw (and-true (x || (o && y)), and-true o)
+handed_on x false o y false w = rw (or-false x, and-true x, and-false o, or-false x)
 
 -- ---- each kind's edit
 -- A table of juniors that has these edges.

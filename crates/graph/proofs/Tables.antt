@@ -1,7 +1,7 @@
 -- The laws of tables: what an entry is, and what putting a member in or taking one out changes.
 -- Assumes nothing.
 use mathlib.Core.Path.{◌≡◌, refl, sym, ap, ◌∙◌, subst}
-use mathlib.Core.Bool.{not, ◌&&◌, ◌||◌, and_true, or-false}
+use mathlib.Core.Bool.{not, ◌&&◌, ◌||◌, and-true, or-false}
 use mathlib.Core.Logic.{◌≢◌}
 use mathlib.Core.List.{List}
 use Prim.Native.Nat.{ℕ, zero, suc, ◌+◌, ◌<◌, ◌≤◌, ◌^◌}
@@ -105,7 +105,7 @@ module _ {n k : ℕ} {l : List ℕ} (w : Table n k l) (a b : ℕ) (h : a < n) wh
   take_out_test i p =
       elim (ℕ_discrete i a) [
         | yes e ↦ subst (λ (j : ℕ). member p (at (set l a s) j) ≡ member p (at l j) && not (eqb j a && eqb p b)) (sym e) here
-        | no d ↦ ap (member p) (at_other s i d) ∙ rw (fails (eqb i a) (λ t. d (test_equal t)), and_true)
+        | no d ↦ ap (member p) (at_other s i d) ∙ rw (fails (eqb i a) (λ t. d (test_equal t)), and-true)
       ]
     where
       s : ℕ

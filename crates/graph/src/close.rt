@@ -73,7 +73,7 @@ fn gather(
 // The effective set of each role; a role that is not present has its direct privileges alone.
 pub(crate) fn close(present: u64, directs: &SetTable, juniors: &[u64; 64]) -> SetTable
     requires { Acyclic present juniors.now }
-    ensures* { λ r. ⌜ sets_in r ≡ table role_count (gathered (at (sets_in directs.now)) (λ t r. spec.member t (at juniors.now r)) role_count) ⌝ }
+    ensures { sets_in result ≡ table role_count (gathered (at (sets_in directs.now)) (λ t r. spec.member t (at juniors.now r)) role_count) }
 {
     let mut sets = copied_sets(directs);
     let mut done = sets::difference(ALL_ROLES, present);

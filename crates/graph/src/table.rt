@@ -120,7 +120,7 @@ pub(crate) fn exchange_roles(table: &mut [u64; 64], into: u64, out: u64, put: u6
 
 // The roles present that have a among their juniors.
 pub(crate) fn seniors_in(present: u64, juniors: &[u64; 64], a: usize) -> u64
-    ensures* { λ r. ⌜ r ≡ collect role_count (λ r. member r present && member a (spec.at juniors.now r)) ⌝ }
+    ensures { result ≡ collect role_count (λ r. member r present && member a (spec.at juniors.now r)) }
 {
     let mut seniors = 0u64;
     let mut rest = present;

@@ -1,5 +1,8 @@
 // The keeper for other languages: exported functions over a lent block of words that holds the sitting.
 // Any block, any lengths and any contents get an answer; a block of fewer than 321 words holds no sitting and is left alone.
+
+#![tactic(auto)]
+
 mod block;
 mod calls;
 mod changes;

@@ -1,1 +1,3 @@
 // Laws alone: orders, the edges drawn of them, and paths.
+
+#![tactic(auto)]

@@ -27,7 +27,7 @@ pub(crate) const TRAILER: usize = 8;
 pub(crate) const LEAST: usize = SET + TRAILER;
 
 // The parts of an image that are entries, in their order.
-#[derive(Drop)]
+#[derive(Clone, Copy)]
 pub(crate) enum Part {
     Roles,
     Conflicts,

@@ -1,4 +1,7 @@
 // Seats over the role graph: records and the calls they carry, asks, images, and the lines of a tape.
+
+#![tactic(auto)]
+
 pub mod answers;
 pub mod deciding;
 mod endian;
@@ -16,7 +19,7 @@ mod writing;
 use graph::{Change, ConflictEntry, Privilege, Refusal, Role, Verdict};
 
 // A seat's number.
-#[derive(Drop)]
+#[derive(Clone, Copy)]
 pub struct Seat(pub u8);
 
 // What a keeper holds: the role graph, and by seat number the set of the seat's roles.
@@ -29,7 +32,7 @@ pub struct State {
 }
 
 // A call that draws nothing anew, kinds 8 to 12, with the fields that its kind names.
-#[derive(Drop)]
+#[derive(Clone, Copy)]
 pub enum Request {
     Declare(Privilege, Privilege),
     Lift(Privilege, Privilege),
@@ -39,27 +42,27 @@ pub enum Request {
 }
 
 // A call: a change of the graph, or a request.
-#[derive(Drop)]
+#[derive(Clone, Copy)]
 pub enum Call {
     Change(Change),
     Request(Request),
 }
 
 // A call as a record carries it.
-#[derive(Drop)]
+#[derive(Clone, Copy)]
 pub struct Step {
     pub call: Call,
 }
 
 // What a record decodes to.
-#[derive(Drop)]
+#[derive(Clone, Copy)]
 pub enum Decoded {
     WellFormed(Step),
     Malformed,
 }
 
 // Accepted, an ask's yes or no, or a refusal with its number and place.
-#[derive(Drop)]
+#[derive(Clone, Copy)]
 pub enum Answer {
     Accepted,
     Answered(bool),
@@ -67,7 +70,7 @@ pub enum Answer {
 }
 
 // The roles of a seat.
-#[derive(Drop)]
+#[derive(Clone, Copy)]
 pub struct SeatEntry {
     pub seat: usize,
     pub roles: u64,
@@ -118,7 +121,7 @@ pub struct ImageRead {
 }
 
 // How long the image is that ends any bytes, or the refusal of loading it.
-#[derive(Drop)]
+#[derive(Clone, Copy)]
 pub enum Measured {
     Length(usize),
     Refused(Refusal),
@@ -132,7 +135,7 @@ pub struct Loaded {
 }
 
 // How many roles, seats and conflicts an image has.
-#[derive(Drop)]
+#[derive(Clone, Copy)]
 pub struct Counts {
     pub roles: usize,
     pub seats: usize,
@@ -140,14 +143,14 @@ pub struct Counts {
 }
 
 // What filling a lent buffer answers: the length written, or a refusal.
-#[derive(Drop)]
+#[derive(Clone, Copy)]
 pub enum Filled {
     Written(usize),
     TooShort(Refusal),
 }
 
 // What feeding a part of a tape answers: the length of its lines, a refusal, or that 64 bits do not hold the records so far.
-#[derive(Drop)]
+#[derive(Clone, Copy)]
 pub enum PartAnswer {
     Written(usize),
     TooShort(Refusal),

@@ -24,7 +24,7 @@ use graph::table::{entry, store, store_roles};
 use graph::{Found, Privilege, Refusal, Verdict, privileges};
 
 // An entry as it was read: whether it passes, its place in the order of its part, and the set of its role where it is a role's.
-#[derive(Drop)]
+#[derive(Clone, Copy)]
 struct EntryRead {
     sound: bool,
     place: usize,
@@ -32,7 +32,7 @@ struct EntryRead {
 }
 
 // The roles of the entries that were read, and whether none of them is refused.
-#[derive(Drop)]
+#[derive(Clone, Copy)]
 struct PartRead {
     roles: u64,
     sound: bool,
@@ -243,7 +243,7 @@ fn read_contents(
 
 // Whether MaxRole lacks a privilege of some ordinary role.
 fn max_lacks(roles: u64, sets: &[u64]) -> bool
-    ensures* { λ r. let g = drawn_from roles sets.now in ⌜ r ≡ any role_count (λ r. ordinary g r && not (included (effective g r) (effective g max_role))) ⌝ }
+    ensures { let g = drawn_from roles sets.now in result ≡ any role_count (λ r. ordinary g r && not (included (effective g r) (effective g max_role))) }
 {
     let top = entry(sets, 1);
     let mut rest = ordinary_roles(roles);

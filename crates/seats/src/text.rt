@@ -15,7 +15,7 @@ use crate::{Answer, Filled};
 pub const LINE: usize = 29;
 
 // Lines of a tape: the index of the last, and how many bytes they have.
-#[derive(Drop)]
+#[derive(Clone, Copy)]
 pub struct Lines {
     pub index: u64,
     pub length: usize,

@@ -5,14 +5,14 @@ ghost use Rattle.sheets.specs.Parsing.{and_then, head, rest, value, longer, plai
 ghost use Rattle.sheets.specs.Working.{read_number, read_end};
 
 // A number that was read, and the place behind it; or no number.
-#[derive(Drop)]
+#[derive(Clone, Copy)]
 pub(crate) enum Number {
     Read(u8, usize),
     Bad,
 }
 
 // The place behind the end of a line; or no end.
-#[derive(Drop)]
+#[derive(Clone, Copy)]
 pub(crate) enum LineEnd {
     At(usize),
     Bad,

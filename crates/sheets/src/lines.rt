@@ -15,21 +15,21 @@ const ROLES: u8 = 64;
 const PRIVILEGES: u8 = 64;
 
 // How many columns were read, and the place behind them; or no heading.
-#[derive(Drop)]
+#[derive(Clone, Copy)]
 pub(crate) enum Columns {
     Read(usize, usize),
     Bad,
 }
 
 // The set of the marks that were read, and the place behind them; or no marks.
-#[derive(Drop)]
+#[derive(Clone, Copy)]
 pub(crate) enum Marks {
     Read(PrivilegeSet, usize),
     Bad,
 }
 
 // A row that was read, its role, its set and the place behind it; or no row.
-#[derive(Drop)]
+#[derive(Clone, Copy)]
 pub(crate) enum Line {
     Read(Role, PrivilegeSet, usize),
     Bad,

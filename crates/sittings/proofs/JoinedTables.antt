@@ -1,7 +1,7 @@
 -- Tables with more members in an entry, and tables whose entries are all empty.
 -- Assumes nothing.
 use mathlib.Core.Path.{◌≡◌, refl, sym, ap, ap₂, ◌∙◌, subst}
-use mathlib.Core.Bool.{◌&&◌, and_true}
+use mathlib.Core.Bool.{◌&&◌, and-true}
 use mathlib.Core.Logic.{◌≢◌}
 use mathlib.Core.List.{List, [], ◌∷◌}
 use Prim.Native.Nat.{ℕ, zero, suc, ◌+◌, ◌<◌, ◌≤◌}
@@ -94,7 +94,7 @@ united_next {l} {n} {found} u h {s} e = record {
 pub united_done : {l : List ℕ} {n found : ℕ} → United l n found → length l ≤ n → eqb found 0 ≡ all_empty l
 unfolding all_empty
 united_done {l} {n} {found} u h =
-    sym (ap (λ (m : List ℕ). eqb found 0 && all_empty m) (drop_of_length-le l h) ∙ and_true (eqb found 0)) ∙ u.left
+    sym (ap (λ (m : List ℕ). eqb found 0 && all_empty m) (drop_of_length-le l h) ∙ and-true (eqb found 0)) ∙ u.left
 
 -- A table that is empty throughout has nothing in any entry.
 pub empty_entries : (l : List ℕ) → T (all_empty l) → (i : ℕ) → at l i ≡ 0

@@ -15,7 +15,7 @@ use graph::table::roles_at;
 use graph::{Found, drawing};
 
 // What a call offers: higher roles to be excluded by a role, and roles to be made active at a seat.
-#[derive(Drop)]
+#[derive(Clone, Copy)]
 pub(crate) struct Offer {
     pub lower: usize,
     pub higher: u64,

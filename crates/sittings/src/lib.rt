@@ -1,4 +1,7 @@
 // Sittings over the saved state: the pairs of roles that exclude each other, the active roles of each seat, the calls of kinds 1 to 15, and tapes.
+
+#![tactic(auto)]
+
 pub mod asking;
 pub mod choosing;
 mod clashing;
@@ -26,7 +29,7 @@ pub struct Sitting {
 }
 
 // A call of kinds 13 to 15, with the fields that its kind names.
-#[derive(Drop)]
+#[derive(Clone, Copy)]
 pub enum Choice {
     Exclude(Role, Role),
     Activate(Seat, Role),
@@ -34,7 +37,7 @@ pub enum Choice {
 }
 
 // A call: a change of the graph, a request, or a choice.
-#[derive(Drop)]
+#[derive(Clone, Copy)]
 pub enum Call {
     Change(Change),
     Request(Request),
@@ -42,20 +45,20 @@ pub enum Call {
 }
 
 // A call as a record carries it.
-#[derive(Drop)]
+#[derive(Clone, Copy)]
 pub struct Step {
     pub call: Call,
 }
 
 // What a record decodes to.
-#[derive(Drop)]
+#[derive(Clone, Copy)]
 pub enum Decoded {
     WellFormed(Step),
     Malformed,
 }
 
 // The higher roles that a role excludes.
-#[derive(Drop)]
+#[derive(Clone, Copy)]
 pub struct PairEntry {
     pub lower: usize,
     pub higher: u64,

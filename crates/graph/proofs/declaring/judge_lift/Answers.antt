@@ -1,0 +1,26 @@
+-- `graph::declaring::judge_lift` meets its contract: it judges by one check after the other.
+-- Assumes nothing.
+use mathlib.Core.Bool.{not}
+use mathlib.Core.Path.{◌∙◌, sym, ap}
+use Rattle.graph.specs.Refusing.{lift_checks}
+use Rattle.graph.specs.Reading.{read_verdict}
+use Rattle.graph.proofs.Judging.{stops, moves_on, ends, refused_first, passed_first}
+use Rattle.graph.proofs.declaring.judge_lift.Goals as goal
+
+pub returns-in_default : goal.returns-in_default
+unfolding lift_checks
+returns-in_default c = refused_first _ _ c.judge_pair-pair.ensures c.in_default.is
+
+pub returns-then-is_declared : goal.returns-then-is_declared
+unfolding lift_checks read_verdict
+returns-then-is_declared c =
+    ends
+    ∙ sym (passed_first _ _ c.judge_pair-pair.ensures c.in-Passed.is
+    ∙ moves_on _ _ (ap not (sym c.is_declared.ensures ∙ c.if-is_declared.true)))
+
+pub returns-else-is_declared : goal.returns-else-is_declared
+unfolding lift_checks
+returns-else-is_declared c =
+    c.refuse.ensures
+    ∙ sym (passed_first _ _ c.judge_pair-pair.ensures c.in-Passed.is
+    ∙ stops _ _ (ap not (sym c.is_declared.ensures ∙ c.if-is_declared.false)))

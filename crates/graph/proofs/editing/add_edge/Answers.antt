@@ -1,0 +1,10 @@
+-- `graph::editing::add_edge` meets its contract: one edge more.
+-- Assumes nothing.
+use borrow.Author.Rules.{rules}
+use Rattle.graph.proofs.Holding.{add_edge_holds}
+use Rattle.graph.proofs.editing.add_edge.Goals as goal
+
+pub returns : goal.returns
+returns c g D h e =
+    let p = c.args in
+    add_edge_holds g (search rules) h p.a.0 p.b.0 e c.single-junior.ensures c.single-senior.ensures c.exchange_roles.ensures

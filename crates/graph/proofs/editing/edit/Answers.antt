@@ -1,0 +1,32 @@
+-- `graph::editing::edit` meets its contract: each kind's own edit.
+-- Assumes nothing.
+use Rattle.graph.specs.Reading.{read_change}
+use Rattle.graph.proofs.editing.edit.Goals as goal
+
+pub returns-in-AddByPlace : goal.returns-in-AddByPlace
+unfolding read_change
+returns-in-AddByPlace c = rw c.in-AddByPlace.is c.add_by_place.ensures
+
+pub returns-in-AddByPrivileges : goal.returns-in-AddByPrivileges
+unfolding read_change
+returns-in-AddByPrivileges c = rw c.in-AddByPrivileges.is (λ g. c.add_by_privileges.ensures g _)
+
+pub returns-in-RemoveRole : goal.returns-in-RemoveRole
+unfolding read_change
+returns-in-RemoveRole c = rw c.in-RemoveRole.is c.remove_role.ensures
+
+pub returns-in-Grant : goal.returns-in-Grant
+unfolding read_change
+returns-in-Grant c = rw c.in-Grant.is (λ g. c.grant.ensures g _)
+
+pub returns-in-Withdraw : goal.returns-in-Withdraw
+unfolding read_change
+returns-in-Withdraw c = rw c.in-Withdraw.is (λ g. c.withdraw.ensures g _)
+
+pub returns-in-AddEdge : goal.returns-in-AddEdge
+unfolding read_change
+returns-in-AddEdge c = rw c.in-AddEdge.is (λ g. c.add_edge.ensures g _)
+
+pub returns-in-RemoveEdge : goal.returns-in-RemoveEdge
+unfolding read_change
+returns-in-RemoveEdge c = rw c.in-RemoveEdge.is (λ g. c.remove_edge.ensures g _)

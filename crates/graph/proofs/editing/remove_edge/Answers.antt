@@ -1,0 +1,11 @@
+-- `graph::editing::remove_edge` meets its contract: one edge less, and its ends joined to what lay beyond.
+-- Assumes nothing.
+use borrow.Author.Rules.{rules}
+use Rattle.graph.proofs.Holding.{remove_edge_holds}
+use Rattle.graph.proofs.editing.remove_edge.Goals as goal
+
+pub returns : goal.returns
+returns c g D h e =
+    let p = c.args in
+    remove_edge_holds g (search rules) h p.a.0 p.b.0 e c.single-junior.ensures c.single-senior.ensures c.roles_at-under.ensures c.senior_roles.ensures c.seniors_in-over.ensures
+    c.exchange_roles.ensures c.exchange_roles-2.ensures
