@@ -105,9 +105,9 @@ accepted_taken (refusing.refused n p) m h s {a} e d =
     absurd (omega arith)
 
 -- Any other answer is a refusal, which leaves the state.
-pub other_taken : (v : Verdict) (m h s : State) (a : answers.the_data) {t : State} → (read_answer a, t) ≡ settle v accepted m h → OneOf (1 ∷ 2 ∷ []) (tag_of answer-enum.the_type a) → (read_answer a, s) ≡ settle v accepted s h
+pub other_taken : (v : Verdict) (m h s : State) (a : answers.the_data) {t : State} → (read_answer a, t) ≡ settle v accepted m h → (a ≡ answers.Accepted → ⊥) → (read_answer a, s) ≡ settle v accepted s h
 unfolding settle judged settling.settle read_answer
-other_taken passed m h s answers.Accepted e o = absurd (miss (1 ∷ 2 ∷ []) 0 tt o)
+other_taken passed m h s answers.Accepted e o = absurd (o refl)
 other_taken passed m h s (answers.Answered b) e o = let x = ap (λ (z : Answer × State). z.0) e in let z : ◌≡◌ {A = ℕ} 0 1 = cc in absurd (omega arith)
 other_taken passed m h s (answers.Refused r) e o = let x = ap (λ (z : Answer × State). z.0) e in let z : ◌≡◌ {A = ℕ} 0 1 = cc in absurd (omega arith)
 other_taken (refusing.refused n p) m h s a e o = ap (λ (z : Answer × State). (z.0, s)) e

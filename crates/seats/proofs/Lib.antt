@@ -41,8 +41,6 @@ pub mod LoadedSaves
 -- ---- tapes
 pub mod TapeRecords
 pub mod TapePlaces
-pub mod Readers
-pub mod ReaderCalls
 pub mod Lines
 pub mod Feeding
 -- ---- the three demands

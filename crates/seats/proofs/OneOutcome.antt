@@ -67,9 +67,13 @@ write_measured : images.Measured → Measured
 write_measured (measured n) = measures.Length n
 write_measured (unmeasured n p) = measures.Refused (record { number = n; place = p })
 
-pub one_measured : (y : images.Measured) → One read_measured (λ m. read_measured m ≡ y)
+measured_written : (m : images.Measured) → read_measured (write_measured m) ≡ m
 unfolding read_measured write_measured
-one_measured = one read_measured write_measured (λ y. elim y [ measured n ↦ refl | unmeasured n p ↦ refl ])
+measured_written (measured n) = refl
+measured_written (unmeasured n p) = refl
+
+pub one_measured : (y : images.Measured) → One read_measured (λ m. read_measured m ≡ y)
+one_measured = one read_measured write_measured measured_written
 
 write_verdict : Verdict → verdict-enum.Verdict
 write_verdict passed = verdicts.Passed

@@ -1,0 +1,11 @@
+-- `seats::loading::fresh` meets its contract: each table is 64 empty sets.
+-- Assumes nothing.
+use mathlib.Core.Path.{refl}
+use Rattle.graph.specs.Graph as graph
+use Rattle.graph.specs.Reading.{sets_in}
+use Rattle.seats.specs.Seats.{fresh}
+use Rattle.seats.proofs.loading.fresh.Goals as goal
+
+pub returns : goal.returns
+unfolding fresh graph.fresh sets_in
+returns c = refl

@@ -1,0 +1,31 @@
+-- `seats::stepping::take` meets its contract: nothing decodes, or the call is a change or a request.
+-- Assumes nothing.
+use mathlib.Core.Path.{sym, ap, ◌∙◌}
+use Rattle.seats.specs.Calls.{Answer, perform}
+use Rattle.seats.specs.Records.{perform_decoded, step}
+use Rattle.seats.specs.Reading.{state_of, read_call, read_decoded}
+use Rattle.seats.proofs.stepping.take.Goals as goal
+
+pub returns-in_default : goal.returns-in_default
+unfolding step perform_decoded read_decoded
+returns-in_default c =
+    let g = c.args in
+    let s = state_of g.roles g.sets.now g.conflicts.now g.seats.now in
+    ap (λ (x : Answer). (x, s)) c.refusal.ensures
+    ∙ sym (ap (perform_decoded s) (sym c.decode-decoded.ensures ∙ ap read_decoded c.in_default.is))
+
+pub returns-in-Change : goal.returns-in-Change
+unfolding step perform_decoded read_decoded read_call
+returns-in-Change c =
+    let g = c.args in
+    let s = state_of g.roles g.sets.now g.conflicts.now g.seats.now in
+    c.take_change.ensures
+    ∙ sym (ap (perform_decoded s) (sym c.decode-decoded.ensures ∙ ap read_decoded c.in-WellFormed.is) ∙ ap (λ x. perform s (read_call x)) c.in-Change.is)
+
+pub returns-in-Request : goal.returns-in-Request
+unfolding step perform_decoded read_decoded read_call
+returns-in-Request c =
+    let g = c.args in
+    let s = state_of g.roles g.sets.now g.conflicts.now g.seats.now in
+    c.take_request.ensures
+    ∙ sym (ap (perform_decoded s) (sym c.decode-decoded.ensures ∙ ap read_decoded c.in-WellFormed.is) ∙ ap (λ x. perform s (read_call x)) c.in-Request.is)
