@@ -86,7 +86,7 @@ pub enum Change {
 }
 
 // What a change comes to before 26 to 30 are judged: its verdict, and the roles and sets after it; a refused one has no sets.
-#[derive(Drop)]
+#[derive(Clone, Copy)]
 pub struct Attempt {
     pub verdict: Verdict,
     pub roles: u64,

@@ -5,8 +5,6 @@ use mathlib.Core.Path.{◌≡◌, refl, sym, ap, ◌∙◌}
 use mathlib.Core.List.{List, [], ◌∷◌, ◌++◌, append_assoc}
 use Prim.Native.Nat.{ℕ}
 use native.Mathlib.Omega.{arith}
-use denote.Enum.Declared.{tag_of}
-use types.Run.{OneOf, miss}
 use Rattle.graph.specs.Editing.{Change, add_by_place, add_by_privileges, remove_role, grant, withdraw, add_edge, remove_edge}
 use Rattle.graph.specs.Refusing.{Check, Verdict, passed, verdict, input_checks, state_checks, still_below, closed_checks}
 use Rattle.graph.specs.Refusing as refusing
@@ -21,7 +19,6 @@ use Rattle.seats.specs.Calls.{change, Answer, accepted, refused, seat_checks, ch
 use Rattle.seats.specs.Reading.{read_answer}
 use Rattle.seats.specs.Working.{removal_checks, after_checks}
 use Rattle.seats.specs.declared.Answer.TheVariants as answers
-use Rattle.seats.specs.contracts.Answer as answer-enum
 
 -- Checks in the middle that refuse nothing do not count.
 skipped : (l m n : List Check) → verdict m ≡ passed → verdict (l ++ n) ≡ verdict ((l ++ m) ++ n)

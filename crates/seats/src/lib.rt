@@ -23,7 +23,7 @@ use graph::{Change, ConflictEntry, Privilege, Refusal, Role, Verdict};
 pub struct Seat(pub u8);
 
 // What a keeper holds: the role graph, and by seat number the set of the seat's roles.
-#[derive(Drop)]
+#[derive(Clone, Copy)]
 pub struct State {
     pub roles: u64,
     pub sets: [u64; 64],
@@ -77,7 +77,7 @@ pub struct SeatEntry {
 }
 
 // What a request stores: nothing, the conflicts of a privilege, or the roles of a seat.
-#[derive(Drop)]
+#[derive(Clone, Copy)]
 pub enum Stored {
     Nothing,
     ConflictsOf(ConflictEntry),
@@ -85,14 +85,14 @@ pub enum Stored {
 }
 
 // What a request comes to: its answer, and what it stores.
-#[derive(Drop)]
+#[derive(Clone, Copy)]
 pub struct Decision {
     pub answer: Answer,
     pub stored: Stored,
 }
 
 // What a change comes to: its answer, and the roles and sets after it; a refused one has no sets.
-#[derive(Drop)]
+#[derive(Clone, Copy)]
 pub struct Changed {
     pub answer: Answer,
     pub roles: u64,
@@ -100,21 +100,21 @@ pub struct Changed {
 }
 
 // What a change or a record comes to where the tables are lent: its answer, and the roles after it.
-#[derive(Drop)]
+#[derive(Clone, Copy)]
 pub struct Taken {
     pub answer: Answer,
     pub roles: u64,
 }
 
 // What a record comes to: its answer, and the state after it.
-#[derive(Drop)]
+#[derive(Clone, Copy)]
 pub struct Stepped {
     pub answer: Answer,
     pub state: State,
 }
 
 // What the image that ends any bytes comes to: whether it is refused, and its state; a refused one has a fresh state.
-#[derive(Drop)]
+#[derive(Clone, Copy)]
 pub struct ImageRead {
     pub verdict: Verdict,
     pub state: State,
@@ -128,7 +128,7 @@ pub enum Measured {
 }
 
 // What loading answers, and the state after it.
-#[derive(Drop)]
+#[derive(Clone, Copy)]
 pub struct Loaded {
     pub answer: Answer,
     pub state: State,

@@ -5,7 +5,7 @@ ghost use Rattle.seats.specs.Places.{is_end, record_at, record_end};
 use crate::records::RECORD;
 
 // A lent tape, and the place of its next record.
-#[derive(Drop)]
+#[derive(Clone, Copy)]
 pub struct TapeReader<'a> {
     pub tape: &'a [u8],
     pub at: usize,

@@ -29,5 +29,4 @@ pub mod FollowingTables
 pub mod Idle
 pub mod TakenCalls
 -- ---- tapes
-pub mod SittingCells
 pub mod Printed

@@ -5,8 +5,6 @@ use mathlib.Core.Bool.{Bool, true, false, cond, ◌&&◌}
 use mathlib.Core.List.{List, [], ◌∷◌}
 use Prim.Native.Nat.{ℕ}
 use native.Mathlib.Omega.{arith}
-use denote.Enum.Declared.{tag_of}
-use types.Run.{OneOf, miss}
 use lib.Dec.{T}
 use lib.ListN.{length}
 use Rattle.sets.proofs.Tests.{both}
@@ -27,8 +25,8 @@ use Rattle.seats.specs.Records.{all_empty}
 use Rattle.seats.specs.Reading.{read_answer, read_request}
 use Rattle.seats.specs.declared.Answer.TheVariants as answers
 use Rattle.seats.specs.declared.Request.TheVariants as requests
-use Rattle.seats.specs.contracts.Answer as answer-enum
-use Rattle.seats.specs.contracts.Request as request-enum
+use Rattle.graph.specs.declared.Role.{Role}
+use Rattle.seats.specs.declared.Seat.{Seat}
 use Rattle.seats.proofs.JudgedCalls.{settle_refused, settle_passed}
 use Rattle.seats.proofs.Settling as base-settling
 use Rattle.seats.proofs.Changing.{accepted_taken, other_taken}
@@ -63,9 +61,9 @@ module _ (z : Sitting) (c : Change) where
   pub change_refused : (m : State) (a : answers.the_data) {t : State} → (
       let h = base.after z.state (base.change c) in
       (read_answer a, t) ≡ settle (verdict (base.checks z.state (base.change c) h)) accepted m h
-      → OneOf (1 ∷ 2 ∷ []) (tag_of answer-enum.the_type a) → (read_answer a, z) ≡ perform z (call (base.change c)))
+      → (a ≡ answers.Accepted → ⊥) → (read_answer a, z) ≡ perform z (call (base.change c)))
   unfolding read_answer base.perform base.reply followed is_refusal
-  change_refused m answers.Accepted e o = absurd (miss (1 ∷ 2 ∷ []) 0 tt o)
+  change_refused m answers.Accepted e o = absurd (o refl)
   change_refused m (answers.Answered b) e o = absurd (never_answered _ _ _ e)
   change_refused m (answers.Refused r) e o =
       sym (beside z (base.change c) ∙ ap (followed z (base.change c)) (sym (other_taken _ _ _ z.state (answers.Refused r) e o)))
@@ -111,12 +109,12 @@ module _ (z : Sitting) (c : Change) where
 
 -- ---- requests
 -- No request but kind 11 switches anything off.
-pub none_off : (h : State) (A : List ℕ) (r : requests.the_data) → OneOf (0 ∷ 1 ∷ 2 ∷ 4 ∷ []) (tag_of request-enum.the_type r) → A ≡ active_after (read_request r) h A
+pub none_off : (h : State) (A : List ℕ) (r : requests.the_data) → ((a : Seat) (b : Role) → r ≡ requests.Unassign a b → ⊥) → A ≡ active_after (read_request r) h A
 unfolding read_request active_after
 none_off h A (requests.Declare a b) o = refl
 none_off h A (requests.Lift a b) o = refl
 none_off h A (requests.Assign a b) o = refl
-none_off h A (requests.Unassign a b) o = absurd (miss (0 ∷ 1 ∷ 2 ∷ 4 ∷ []) 3 tt o)
+none_off h A (requests.Unassign a b) o = absurd (o a b refl)
 none_off h A (requests.Ask a b) o = refl
 
 module _ (z : Sitting) (r : requests.the_data) where
@@ -154,10 +152,10 @@ module _ (z : Sitting) (r : requests.the_data) where
         go (requests.Ask x y) e = refl
 
     -- A request with any other answer leaves the active roles.
-    pub other_request : (a : answers.the_data) → OneOf (1 ∷ 2 ∷ []) (tag_of answer-enum.the_type a) → (read_answer a, h) ≡ base.perform z.state (read_request r)
+    pub other_request : (a : answers.the_data) → (a ≡ answers.Accepted → ⊥) → (read_answer a, h) ≡ base.perform z.state (read_request r)
         → (read_answer a, sitting_of h z.pairs z.active) ≡ perform z (call (read_request r))
     unfolding read_answer is_refusal followed
-    other_request answers.Accepted o e = absurd (miss (1 ∷ 2 ∷ []) 0 tt o)
+    other_request answers.Accepted o e = absurd (o refl)
     other_request (answers.Answered b) o e =
         sym (beside z (read_request r) ∙ ap (followed z (read_request r)) (sym e) ∙ followed_request h refl ∙ ap (λ (A : List ℕ). (answered b, sitting_of h z.pairs A)) (answered_keeps e))
     other_request (answers.Refused f) o e =

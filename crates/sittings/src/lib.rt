@@ -18,7 +18,7 @@ use graph::{Change, Role, Verdict};
 use seats::{Answer, PartAnswer, Request, Seat, SeatEntry};
 
 // What a keeper holds: the saved state; by role number the higher roles that it excludes; and by seat number the set of the seat's active roles.
-#[derive(Drop)]
+#[derive(Clone, Copy)]
 pub struct Sitting {
     pub roles: u64,
     pub sets: [u64; 64],
@@ -65,7 +65,7 @@ pub struct PairEntry {
 }
 
 // What a choice stores: nothing, the roles that a role excludes, or the active roles of a seat.
-#[derive(Drop)]
+#[derive(Clone, Copy)]
 pub enum Stored {
     Nothing,
     PairsOf(PairEntry),
@@ -73,14 +73,14 @@ pub enum Stored {
 }
 
 // What a choice comes to: its answer, and what it stores.
-#[derive(Drop)]
+#[derive(Clone, Copy)]
 pub struct Chosen {
     pub answer: Answer,
     pub stored: Stored,
 }
 
 // What an accepted change comes to by the pairs and the active roles: whether 35 refuses it, and the pairs and the active roles after it.
-#[derive(Drop)]
+#[derive(Clone, Copy)]
 pub struct Followed {
     pub verdict: Verdict,
     pub pairs: [u64; 64],
@@ -88,21 +88,21 @@ pub struct Followed {
 }
 
 // What a record comes to: its answer, and the sitting after it.
-#[derive(Drop)]
+#[derive(Clone, Copy)]
 pub struct Stepped {
     pub answer: Answer,
     pub sitting: Sitting,
 }
 
 // What loading answers, and the sitting after it.
-#[derive(Drop)]
+#[derive(Clone, Copy)]
 pub struct Loaded {
     pub answer: Answer,
     pub sitting: Sitting,
 }
 
 // What feeding a part of a tape gives: its answer, the records so far, and the sitting after them.
-#[derive(Drop)]
+#[derive(Clone, Copy)]
 pub struct Fed {
     pub answer: PartAnswer,
     pub count: u64,

@@ -11,7 +11,7 @@ use seats::text;
 use seats::text::Lines;
 
 // What a part of a tape comes to: its lines, and the sitting after it.
-#[derive(Drop)]
+#[derive(Clone, Copy)]
 pub struct Ran {
     pub lines: Lines,
     pub sitting: Sitting,

@@ -1,0 +1,11 @@
+use Prim.Native.Nat.{◌-◌}
+use Rattle.graph.specs.Tables.{at}
+use Rattle.graph.proofs.Loops.{Filled}
+use Rattle.sittings.specs.Working.{reached_by, joined_at}
+use Rattle.sittings.proofs.reaching.all_reached.Given as goal
+
+abbrev pub invariant-loop-i : goal.invariant-loop-i
+invariant-loop-i l = Filled (λ i. reached_by l.lower (at (joined_at l.held l.n l.added) i)) l.i l.all
+
+abbrev pub decreases-loop-i : goal.decreases-loop-i
+decreases-loop-i l = 64 - l.i

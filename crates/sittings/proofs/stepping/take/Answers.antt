@@ -1,0 +1,41 @@
+-- `sittings::stepping::take` meets its contract: nothing decodes, or the call is a change, a request or a choice.
+-- Assumes nothing.
+use mathlib.Core.Path.{sym, ap, ◌∙◌}
+use Rattle.seats.specs.Calls.{Answer}
+use Rattle.seats.specs.Reading.{state_of}
+use Rattle.sittings.specs.Calls.{perform}
+use Rattle.sittings.specs.Records.{perform_decoded, step}
+use Rattle.sittings.specs.Reading.{sitting_of, read_call, read_decoded}
+use Rattle.sittings.proofs.stepping.take.Goals as goal
+
+pub returns-in_default : goal.returns-in_default
+unfolding step perform_decoded read_decoded
+returns-in_default c =
+    let g = c.args in
+    let z = sitting_of (state_of g.roles g.sets.now g.conflicts.now g.seats.now) g.pairs.now g.active.now in
+    ap (λ (x : Answer). (x, z)) c.refusal.ensures
+    ∙ sym (ap (perform_decoded z) (sym c.decode-decoded.ensures ∙ ap read_decoded c.in_default.is))
+
+pub returns-in-Change : goal.returns-in-Change
+unfolding step perform_decoded read_decoded read_call
+returns-in-Change c =
+    let g = c.args in
+    let z = sitting_of (state_of g.roles g.sets.now g.conflicts.now g.seats.now) g.pairs.now g.active.now in
+    c.take_change.ensures
+    ∙ sym (ap (perform_decoded z) (sym c.decode-decoded.ensures ∙ ap read_decoded c.in-WellFormed.is) ∙ ap (λ x. perform z (read_call x)) c.in-Change.is)
+
+pub returns-in-Request : goal.returns-in-Request
+unfolding step perform_decoded read_decoded read_call
+returns-in-Request c =
+    let g = c.args in
+    let z = sitting_of (state_of g.roles g.sets.now g.conflicts.now g.seats.now) g.pairs.now g.active.now in
+    c.take_request.ensures _
+    ∙ sym (ap (perform_decoded z) (sym c.decode-decoded.ensures ∙ ap read_decoded c.in-WellFormed.is) ∙ ap (λ x. perform z (read_call x)) c.in-Request.is)
+
+pub returns-in-Choice : goal.returns-in-Choice
+unfolding step perform_decoded read_decoded read_call
+returns-in-Choice c =
+    let g = c.args in
+    let z = sitting_of (state_of g.roles g.sets.now g.conflicts.now g.seats.now) g.pairs.now g.active.now in
+    c.take_choice.ensures _
+    ∙ sym (ap (perform_decoded z) (sym c.decode-decoded.ensures ∙ ap read_decoded c.in-WellFormed.is) ∙ ap (λ x. perform z (read_call x)) c.in-Choice.is)
