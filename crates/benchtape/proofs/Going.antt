@@ -8,7 +8,6 @@ use native.Mathlib.Omega.{arith}
 use lib.Dec.{eqb}
 use lib.ListN.{length, take, length-append}
 use borrow.Author.Tests.{eqb-true}
-use Rattle.io.specs.Counts.{IsPrefixLen}
 use Rattle.graph.specs.Graph.{present, ordinary, effective}
 use Rattle.graph.specs.Drawing.{below, edge, edge_count}
 use Rattle.graph.specs.Reading.{drawn_from}
@@ -26,7 +25,7 @@ use Rattle.sittings.specs.Sittings.{Sitting, fresh}
 use Rattle.sittings.specs.Records.{step}
 use Rattle.sittings.specs.Reading.{read_sitting}
 use Rattle.sittings.specs.declared.Sitting as sitting-struct
-use Rattle.benchtape.specs.Progress.{chunk_length, Within, standing, Answered, Reached, Proceeded}
+use Rattle.benchtape.specs.Progress.{chunk_length, IsPrefixLen, Within, standing, Answered, Reached, Proceeded}
 use Rattle.benchtape.specs.declared.Progress.{Progress}
 use Rattle.benchtape.specs.declared.Read as read-enum
 use Rattle.benchtape.specs.declared.Read.TheVariants.{Bytes}

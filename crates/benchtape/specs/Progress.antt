@@ -1,6 +1,5 @@
 -- What the functions of benchtape promise each other: how far the program has come with the bytes read so far.
-use Rattle.std.specs.Prelude.{true, false, List, ◌≡◌, ℕ, ◌+◌, ◌*◌, ◌%◌, ◌^◌, ◌<◌, eqb, length}
-use Rattle.io.specs.Counts.{IsPrefixLen}
+use Rattle.std.specs.Prelude.{true, false, List, ◌≡◌, ℕ, ◌+◌, ◌*◌, ◌%◌, ◌^◌, ◌<◌, ◌≤◌, eqb, length, take}
 use Rattle.graph.specs.Drawing.{edge_count}
 use Rattle.seats.specs.Records.{record_length}
 use Rattle.seats.specs.Tape.{fed, end_line}
@@ -18,10 +17,19 @@ chunk_records = 1024
 abbrev pub chunk_length : ℕ
 chunk_length = chunk_records * record_length
 
+-- The first n numbers of a list are n.
+abbrev pub IsPrefixLen : ℕ → List ℕ → Type 0
+IsPrefixLen n xs = (n ≤ length xs) × (n ≡ length (take n xs))
+
 -- The bytes read lie within the buffer.
 abbrev pub Within : read-enum.Read → List ℕ → Type 0
 Within (readings.Bytes n) buffer = IsPrefixLen n buffer
 Within readings.Failed buffer = Unit {0}
+
+-- The bytes read lie within the buffer, behind those that were read before.
+abbrev pub MoreWithin : ℕ → read-enum.Read → List ℕ → Type 0
+MoreWithin done (readings.Bytes n) buffer = done + n ≤ length buffer
+MoreWithin done readings.Failed buffer = Unit {0}
 
 -- The records so far and the sitting.
 abbrev pub standing : progress-struct.Progress → ℕ × Sitting

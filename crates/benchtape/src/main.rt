@@ -1,24 +1,24 @@
 // Program benchtape: answers the records of standard input, from a fresh sitting on, by a line each on standard output, and adds the last line.
 //
 // Proved: what is handed over to be written is, for each part of the bytes that reading gave, the lines that the definitions give for it after the parts before, and then the last line for them all.
-// A tape's lines are those of its parts and its last line that of the whole (`printed-parts`), so together they are what document 01 has printed.
+// A tape's lines are those of its parts and its last line that of the whole (`printed_parts`), so together they are what document 01 has printed.
 // Trusted: that `read` and `write` move the bytes as their pages say. No contract can speak of what is read or written, so the order of the calls is seen in the code.
 // Where reading or writing fails, or 64 bits do not hold the number of records, the reason goes to standard error, and neither a further line nor the last line is written. A program's exit status is always 0, so a missing last line is the sign.
 
 #![tactic(auto)]
 
-ghost use Rattle.std.specs.Prelude.{true, List, ◌≡◌, ℕ};
+ghost use Rattle.std.specs.Prelude.{true, List, ◌≡◌, ℕ, ◌≤◌, length};
 ghost use Rattle.seats.specs.Tape.{fed};
 ghost use Rattle.sittings.specs.Records.{step};
 ghost use Rattle.sittings.specs.Reading.{read_sitting};
-ghost use Rattle.benchtape.specs.Progress.{Within, last_line, Answered, Reached, Proceeded};
+ghost use Rattle.benchtape.specs.Progress.{Within, MoreWithin, last_line, Answered, Reached, Proceeded};
 
 use graph::drawing;
-use libc::{STDERR_FILENO, STDIN_FILENO, STDOUT_FILENO};
 use seats::records::RECORD;
 use seats::text::LINE;
 use seats::{Filled, PartAnswer, text};
 use sittings::{Sitting, tape};
+use std::io::{Print, Read as _};
 
 // How many records are read at once.
 const RECORDS: usize = 1024;
@@ -30,14 +30,14 @@ const CHUNK: usize = RECORDS * RECORD;
 const ROOM: usize = RECORDS * LINE;
 
 // What reading gives: how many bytes, or that it failed.
-#[derive(Drop)]
+#[derive(Clone, Copy)]
 enum Read {
     Bytes(usize),
     Failed,
 }
 
 // How far the program has come: the sitting, the records so far, whether there may be more of them, and whether something failed.
-#[derive(Drop)]
+#[derive(Clone, Copy)]
 struct Progress {
     sitting: Sitting,
     count: u64,
@@ -55,17 +55,28 @@ fn room() -> [u8; ROOM] {
     [0; ROOM]
 }
 
-// Reads until the buffer is full or the input ends; unlike `io::read_full`, it tells a failure from the end.
-fn fill(buffer: &mut [u8]) -> Read
+// Reads some bytes behind those that were read; gives how many, or that it failed.
+fn read_more(rt: HostRuntime, buffer: &mut [u8], done: usize) -> Read
+    requires { done ≤ length buffer.old }
+    ensures { MoreWithin done result buffer.new }
+{
+    let mut input = rt.stdin();
+    match input.read(&mut buffer[done..]) {
+        Ok(n) => Read::Bytes(n),
+        Err(_) => Read::Failed,
+    }
+}
+
+// Reads until the buffer is full or the input ends.
+fn fill(rt: HostRuntime, buffer: &mut [u8]) -> Read
     ensures { Within result buffer.new }
 {
     let mut done: usize = 0;
     while done < buffer.len() {
-        let got = libc::read(STDIN_FILENO, &mut buffer[done..]);
-        if got < 0 {
+        let got = read_more(rt, buffer, done);
+        let Read::Bytes(n) = got else {
             return Read::Failed;
-        }
-        let n = io::count(got, &buffer[done..]);
+        };
         if n == 0 {
             break;
         }
@@ -75,10 +86,10 @@ fn fill(buffer: &mut [u8]) -> Read
 }
 
 // The program ends where it stands, and the reason goes to standard error.
-fn stop(progress: Progress, reason: &[u8]) -> Progress
+fn stop(rt: HostRuntime, progress: Progress, reason: &[u8]) -> Progress
     ensures { (bytes : List ℕ) → Answered progress bytes result }
 {
-    io::write_all(STDERR_FILENO, reason);
+    let _said = rt.stderr().write_all(reason).is_ok();
     let sitting = progress.sitting;
     Progress {
         sitting,
@@ -89,21 +100,21 @@ fn stop(progress: Progress, reason: &[u8]) -> Progress
 }
 
 // Writes the lines of these records, whoever calls it having shown that they are.
-fn write_lines(progress: Progress, bytes: &[u8], lines: &[u8]) -> bool
+fn write_lines(rt: HostRuntime, progress: Progress, bytes: &[u8], lines: &[u8]) -> bool
     requires { lines.now ≡ (fed step (read_sitting progress.sitting) progress.count bytes.now).0 }
 {
-    io::write_all(STDOUT_FILENO, lines)
+    rt.stdout().write_all(lines).is_ok()
 }
 
 // Writes the last line, whoever calls it having shown that it is.
-fn write_last(progress: Progress, line: &[u8]) -> bool
+fn write_last(rt: HostRuntime, progress: Progress, line: &[u8]) -> bool
     requires { (Reached progress) × (line.now ≡ last_line progress) }
 {
-    io::write_all(STDOUT_FILENO, line)
+    rt.stdout().write_all(line).is_ok()
 }
 
 // The records in these bytes are answered.
-fn answer(progress: Progress, bytes: &[u8]) -> Progress
+fn answer(rt: HostRuntime, progress: Progress, bytes: &[u8]) -> Progress
     ensures { Answered progress bytes.now result }
 {
     let mut room = room();
@@ -111,11 +122,11 @@ fn answer(progress: Progress, bytes: &[u8]) -> Progress
     let fed = tape::feed(sitting, progress.count, bytes, &mut room);
     let answered = fed.answer;
     match answered {
-        PartAnswer::Uncounted => stop(progress, b"benchtape: too many records\n"),
-        PartAnswer::TooShort(_) => stop(progress, b"benchtape: no room for the lines\n"),
+        PartAnswer::Uncounted => stop(rt, progress, b"benchtape: too many records\n"),
+        PartAnswer::TooShort(_) => stop(rt, progress, b"benchtape: no room for the lines\n"),
         PartAnswer::Written(n) => {
-            if !write_lines(progress, bytes, &room[..n]) {
-                return stop(progress, b"benchtape: writing failed\n");
+            if !write_lines(rt, progress, bytes, &room[..n]) {
+                return stop(rt, progress, b"benchtape: writing failed\n");
             }
             let after = fed.sitting;
             Progress {
@@ -129,20 +140,20 @@ fn answer(progress: Progress, bytes: &[u8]) -> Progress
 }
 
 // The next bytes are read, and their records answered.
-fn proceed(progress: Progress) -> Progress
+fn proceed(rt: HostRuntime, progress: Progress) -> Progress
     requires { (Reached progress) × (progress.more ≡ true) }
     ensures { Proceeded progress result }
 {
     let mut buffer = chunk();
-    let read = fill(&mut buffer);
+    let read = fill(rt, &mut buffer);
     match read {
-        Read::Failed => stop(progress, b"benchtape: reading failed\n"),
-        Read::Bytes(n) => answer(progress, &buffer[..n]),
+        Read::Failed => stop(rt, progress, b"benchtape: reading failed\n"),
+        Read::Bytes(n) => answer(rt, progress, &buffer[..n]),
     }
 }
 
 // All records of standard input, from a fresh sitting on.
-fn answer_all() -> Progress
+fn answer_all(rt: HostRuntime) -> Progress
     ensures { Reached result }
 {
     let sitting = tape::fresh();
@@ -153,7 +164,7 @@ fn answer_all() -> Progress
         failed: false,
     };
     loop {
-        progress = proceed(progress);
+        progress = proceed(rt, progress);
         if !progress.more {
             return progress;
         }
@@ -161,7 +172,7 @@ fn answer_all() -> Progress
 }
 
 // The last line is written.
-fn finish(progress: Progress)
+fn finish(rt: HostRuntime, progress: Progress)
     requires { Reached progress }
 {
     let mut room = [0u8; 64];
@@ -171,19 +182,19 @@ fn finish(progress: Progress)
     let filled = text::write_end(&mut room, progress.count, edges);
     match filled {
         Filled::TooShort(_) => {
-            stop(progress, b"benchtape: no room for the last line\n");
+            stop(rt, progress, b"benchtape: no room for the last line\n");
         }
         Filled::Written(n) => {
-            if !write_last(progress, &room[..n]) {
-                stop(progress, b"benchtape: writing failed\n");
+            if !write_last(rt, progress, &room[..n]) {
+                stop(rt, progress, b"benchtape: writing failed\n");
             }
         }
     }
 }
 
-fn main() {
-    let progress = answer_all();
+fn main(rt: HostRuntime) {
+    let progress = answer_all(rt);
     if !progress.failed {
-        finish(progress);
+        finish(rt, progress);
     }
 }

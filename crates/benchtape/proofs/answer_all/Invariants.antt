@@ -1,0 +1,11 @@
+use mathlib.Core.Bool.{true}
+use mathlib.Core.Path.{◌≡◌}
+use Prim.Native.Nat.{◌-◌, ◌^◌, ◌<◌}
+use Rattle.benchtape.specs.Progress.{Reached}
+use Rattle.benchtape.proofs.answer_all.Given as goal
+
+abbrev pub invariant-loop-progress : goal.invariant-loop-progress
+invariant-loop-progress l = (Reached l.progress) × (l.progress.more ≡ true) × (l.progress.count < 2 ^ 64)
+
+abbrev pub decreases-loop-progress : goal.decreases-loop-progress
+decreases-loop-progress l = 2 ^ 64 - l.progress.count

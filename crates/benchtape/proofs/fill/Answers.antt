@@ -1,0 +1,13 @@
+-- `fill` meets its contract. The invariant: what was read lies within the buffer, which is as long as it was.
+-- The measure is the room left.
+-- Assumes nothing.
+use borrow.Author.Rules.{rules}
+use native.Mathlib.Omega.{arith}
+use lib.ListN.{length-take}
+use Rattle.benchtape.proofs.fill.Goals as goal
+
+pub returns-after-loop-done : goal.returns-after-loop-done
+returns-after-loop-done c = (search rules, simp length-take (omega arith))
+
+pub returns-then-n-eq0 : goal.returns-then-n-eq0
+returns-then-n-eq0 c = (search rules, simp length-take (omega arith))
