@@ -26,12 +26,12 @@ fn close_role(
     done: u64,
     r: usize,
 ) -> u64
-    requires r_lt_role_count { r < role_count }
+    requires is_role { r < role_count }
     requires ending { Ending juniors.now }
     requires memo { Memo (sets_in directs.now) juniors.now done (sets_in sets.old) }
-    ensures memo_2 { Memo (sets_in directs.now) juniors.now result (sets_in sets.new) }
-    ensures by_index { (n : ℕ) → T (spec.member n done) → T (spec.member n result) }
-    ensures t { T (spec.member r result) }
+    ensures memo_after { Memo (sets_in directs.now) juniors.now result (sets_in sets.new) }
+    ensures kept { (n : ℕ) → T (spec.member n done) → T (spec.member n result) }
+    ensures is_done { T (spec.member r result) }
 {
     if sets::member(r, done) {
         return done;
@@ -51,12 +51,12 @@ fn gather(
     before: u64,
     r: usize,
 ) -> Gathered
-    requires r_lt_role_count { r < role_count }
+    requires is_role { r < role_count }
     requires ending { Ending juniors.now }
     requires memo { Memo (sets_in directs.now) juniors.now before (sets_in sets.old) }
-    ensures memo_2 { Memo (sets_in directs.now) juniors.now result.done (sets_in sets.new) }
-    ensures by_index { (n : ℕ) → T (spec.member n before) → T (spec.member n result.done) }
-    ensures set_value { read_set result.set ≡ spec.gather role_count (λ t. spec.member t (at juniors.now r)) (closed_set (sets_in directs.now) juniors.now) }
+    ensures memo_after { Memo (sets_in directs.now) juniors.now result.done (sets_in sets.new) }
+    ensures kept { (n : ℕ) → T (spec.member n before) → T (spec.member n result.done) }
+    ensures gathered { read_set result.set ≡ spec.gather role_count (λ t. spec.member t (at juniors.now r)) (closed_set (sets_in directs.now) juniors.now) }
 {
     let mut done = before;
     let mut set = privileges::empty();

@@ -215,9 +215,9 @@ fn read_contents(
     seats: &mut [u64],
 ) -> PartRead
     requires counts_in_bounds { at + distance (read_counts counts) ≤ length bytes.now }
-    requires sets_value { sets_in sets.old ≡ replicate role_count empty }
-    requires conflicts_value { sets_in conflicts.old ≡ replicate privilege_count empty }
-    requires seats_value { seats.old ≡ replicate seat_count empty }
+    requires empty_sets { sets_in sets.old ≡ replicate role_count empty }
+    requires empty_conflicts { sets_in conflicts.old ≡ replicate privilege_count empty }
+    requires empty_seats { seats.old ≡ replicate seat_count empty }
     ensures { ContentsRead (contents bytes.now at (read_counts counts)) (state_of result.roles sets.new conflicts.new seats.new) result.sound }
 {
     let roles_at = at + SET;

@@ -14,28 +14,28 @@ use Rattle.graph.proofs.ExchangeLoops.{left_in}
 use Rattle.graph.proofs.Memo.{role_closed, Joined, joined_none, joined_next}
 use Rattle.graph.proofs.close.+close_role_gather.Goals as goal
 
-pub close_role-returns-clause-memo_2 : goal.close_role-returns-clause-memo_2
-close_role-returns-clause-memo_2 t c =
+pub close_role-returns-clause-memo_after : goal.close_role-returns-clause-memo_after
+close_role-returns-clause-memo_after t c =
     let p = c.requires in
     let g = c.gather-g in
     let w =
-    role_closed c.args.done p.ending p.r_lt_role_count g.ensures.memo_2 g.ensures.by_index g.ensures.set_value
-    (c.union.ensures ∙ ap (λ (d : ℕ). union d (read_set g.result.set)) c.entry.ensures) (known_single p.r_lt_role_count c.single.ensures) c.union-2.ensures in
+    role_closed c.args.done p.ending p.is_role g.ensures.memo_after g.ensures.kept g.ensures.gathered
+    (c.union.ensures ∙ ap (λ (d : ℕ). union d (read_set g.result.set)) c.entry.ensures) (known_single p.is_role c.single.ensures) c.union-2.ensures in
     subst (Memo (sets_in c.args.directs.now) c.args.juniors.now c.union-2.result) (sym c.store.ensures) w.0
 
-pub close_role-returns-clause-by_index : goal.close_role-returns-clause-by_index
-close_role-returns-clause-by_index t c =
+pub close_role-returns-clause-kept : goal.close_role-returns-clause-kept
+close_role-returns-clause-kept t c =
     let p = c.requires in
     let g = c.gather-g in
-    (role_closed c.args.done p.ending p.r_lt_role_count g.ensures.memo_2 g.ensures.by_index g.ensures.set_value
-    (c.union.ensures ∙ ap (λ (d : ℕ). union d (read_set g.result.set)) c.entry.ensures) (known_single p.r_lt_role_count c.single.ensures) c.union-2.ensures).1.0
+    (role_closed c.args.done p.ending p.is_role g.ensures.memo_after g.ensures.kept g.ensures.gathered
+    (c.union.ensures ∙ ap (λ (d : ℕ). union d (read_set g.result.set)) c.entry.ensures) (known_single p.is_role c.single.ensures) c.union-2.ensures).1.0
 
-pub close_role-returns-clause-t : goal.close_role-returns-clause-t
-close_role-returns-clause-t t c =
+pub close_role-returns-clause-is_done : goal.close_role-returns-clause-is_done
+close_role-returns-clause-is_done t c =
     let p = c.requires in
     let g = c.gather-g in
-    (role_closed c.args.done p.ending p.r_lt_role_count g.ensures.memo_2 g.ensures.by_index g.ensures.set_value
-    (c.union.ensures ∙ ap (λ (d : ℕ). union d (read_set g.result.set)) c.entry.ensures) (known_single p.r_lt_role_count c.single.ensures) c.union-2.ensures).1.1
+    (role_closed c.args.done p.ending p.is_role g.ensures.memo_after g.ensures.kept g.ensures.gathered
+    (c.union.ensures ∙ ap (λ (d : ℕ). union d (read_set g.result.set)) c.entry.ensures) (known_single p.is_role c.single.ensures) c.union-2.ensures).1.1
 
 pub gather-loop-rest-init : goal.gather-loop-rest-init
 gather-loop-rest-init t c =
@@ -51,7 +51,7 @@ gather-close_role-done-requires t c =
     let some = c.loop-rest-test.true in
     let below = left_lowest w.sum.left some m.ensures in
     let junior = w.sum.left.within m.result (left_in w.sum.left some m.ensures) in
-    let h = number_below_falls c.args.juniors.now c.requires.ending m.result c.args.r below c.requires.r_lt_role_count junior in
+    let h = number_below_falls c.args.juniors.now c.requires.ending m.result c.args.r below c.requires.is_role junior in
     (omega arith, (below, (c.requires.ending, w.memo)))
 
 pub gather-loop-rest-smaller : goal.gather-loop-rest-smaller
@@ -60,8 +60,8 @@ gather-loop-rest-smaller t c = left_falls c.loop-rest.invariant.sum.left c.loop-
 pub gather-loop-rest-preserved : goal.gather-loop-rest-preserved
 gather-loop-rest-preserved t c =
     let k = c.close_role-done.ensures in
-    joined_next c.loop-rest.invariant c.loop-rest-test.true c.lowest_member-t.ensures k.memo_2 k.by_index k.t
+    joined_next c.loop-rest.invariant c.loop-rest-test.true c.lowest_member-t.ensures k.memo_after k.kept k.is_done
     (c.union-set.ensures ∙ ap (union _) c.entry.ensures) c.without_lowest-rest.ensures
 
-pub gather-returns-clause-set_value : goal.gather-returns-clause-set_value
-gather-returns-clause-set_value t c = gathering_done c.loop-rest.invariant.sum c.loop-rest-test.false
+pub gather-returns-clause-gathered : goal.gather-returns-clause-gathered
+gather-returns-clause-gathered t c = gathering_done c.loop-rest.invariant.sum c.loop-rest-test.false

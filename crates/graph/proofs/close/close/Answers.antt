@@ -16,7 +16,7 @@ close_role-done-requires c =
     let l = c.loop-rest.invariant in
     let some = c.loop-rest-test.true in
     let m = c.lowest_member-r.ensures in
-    record { r_lt_role_count = left_lowest l.left some m; ending = c.requires.ending; memo = l.memo }
+    record { is_role = left_lowest l.left some m; ending = c.requires.ending; memo = l.memo }
 
 pub loop-rest-smaller : goal.loop-rest-smaller
 loop-rest-smaller c = left_falls c.loop-rest.invariant.left c.loop-rest-test.true c.without_lowest-rest.ensures
@@ -24,7 +24,7 @@ loop-rest-smaller c = left_falls c.loop-rest.invariant.left c.loop-rest-test.tru
 pub loop-rest-preserved : goal.loop-rest-preserved
 loop-rest-preserved c =
     let k = c.close_role-done in
-    doing_next c.loop-rest.invariant c.loop-rest-test.true c.lowest_member-r.ensures k.ensures.memo_2 k.ensures.by_index k.ensures.t c.without_lowest-rest.ensures
+    doing_next c.loop-rest.invariant c.loop-rest-test.true c.lowest_member-r.ensures k.ensures.memo_after k.ensures.kept k.ensures.is_done c.without_lowest-rest.ensures
 
 pub returns : goal.returns
 unfolding closed_set

@@ -44,4 +44,4 @@ unfolding contents value_bytes table_in
 returns c =
     let g = c.args in
     contents_read (contents g.bytes.now g.at (read_counts g.counts))
-    (rw (c.store.ensures, c.set_at.ensures, c.requires.sets_value) at c.read_entries-read.ensures) (rw c.requires.conflicts_value at c.read_entries-pairs.ensures) (rw c.requires.seats_value at c.read_entries-seated.ensures)
+    (rw (c.store.ensures, c.set_at.ensures, c.requires.empty_sets) at c.read_entries-read.ensures) (rw c.requires.empty_conflicts at c.read_entries-pairs.ensures) (rw c.requires.empty_seats at c.read_entries-seated.ensures)

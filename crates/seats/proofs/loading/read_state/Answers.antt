@@ -8,7 +8,7 @@ use Rattle.seats.proofs.loading.read_state.Goals as goal
 
 pub read_contents-found-requires : goal.read_contents-found-requires
 unfolding sets_in
-read_contents-found-requires c = record { counts_in_bounds = c.requires; sets_value = refl; conflicts_value = refl; seats_value = refl }
+read_contents-found-requires c = record { counts_in_bounds = c.requires; empty_sets = refl; empty_conflicts = refl; empty_seats = refl }
 
 pub returns-then-not-found : goal.returns-then-not-found
 returns-then-not-found c =

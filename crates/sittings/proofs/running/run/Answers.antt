@@ -33,13 +33,12 @@ pub loop-reader-preserved : goal.loop-reader-preserved
 loop-reader-preserved c =
     let l = c.loop-reader in
     let same = l.invariant.0 in
-    let h = going l.reader.tape.now c.args.part.now l.reader.at same (sym c.ended.ensures ∙ c.loop-reader-test.true) in
-    (
+    let h = going l.reader.tape.now c.args.part.now l.reader.at same (sym c.ended.ensures ∙ c.loop-reader-test.true) in (
       ap (λ (t : Bor (List ℕ)). t.now) c.moved-reader.ensures.0 ∙ same,
       left_next step c.args.buffer.now c.args.count c.args.part.now (read_sitting c.args.sitting) l.invariant.1 h
-      (c.moved-reader.ensures.1 ∙ ap (λ (t : List ℕ). record_end t l.reader.at) same)
-      (c.call-answer.ensures ∙ ap (step (read_sitting l.sitting)) (c.next.ensures ∙ ap (λ (t : List ℕ). record_at t l.reader.at) same))
-      c.next_line-lines.ensures,
+          (c.moved-reader.ensures.1 ∙ ap (λ (t : List ℕ). record_end t l.reader.at) same)
+          (c.call-answer.ensures ∙ ap (step (read_sitting l.sitting)) (c.next.ensures ∙ ap (λ (t : List ℕ). record_at t l.reader.at) same))
+          c.next_line-lines.ensures,
     )
 
 pub returns : goal.returns
