@@ -2,12 +2,10 @@
 -- Assumes nothing.
 use mathlib.Core.Path.{◌≡◌, refl}
 use mathlib.Core.Bool.{true, false}
-use mathlib.Core.List.{List, [], ◌∷◌, ◌++◌}
-use Prim.Native.Nat.{ℕ}
+use mathlib.Core.List.{[], ◌∷◌, ◌++◌}
 use lib.ListN.{replicate}
 use Rattle.sets.specs.Sets.{empty}
 use Rattle.graph.proofs.Examples.{set_of}
-use Rattle.seats.specs.Seats as seats
 use Rattle.seats.specs.Calls.{accepted, answered, refused}
 use Rattle.seats.proofs.Examples.{call, plain, add, state_of, sample, sample_image, spelled_out}
 use Rattle.sittings.specs.Sittings.{Sitting, begun, fresh, excluded, is_active}

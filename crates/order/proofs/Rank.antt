@@ -1,11 +1,10 @@
 -- How many numbers lie below a number: the count rises along a strict order, and is below n.
 -- Assumes nothing.
-use mathlib.Core.Bool.{Bool, true}
+use mathlib.Core.Bool.{Bool}
 use Prim.Native.Nat.{ℕ, ◌<◌, ◌≤◌}
-use native.Mathlib.Omega.{arith}
 use lib.Dec.{T}
 use Rattle.sets.specs.Counting.{count}
-use Rattle.sets.proofs.Counting.{count-lt, count_all, count_bound}
+use Rattle.sets.proofs.Counting.{count-lt, count_bound}
 use Rattle.order.specs.Paths.{StrictOrder}
 
 -- How many numbers below n are below r in the order.

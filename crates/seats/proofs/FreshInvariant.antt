@@ -16,7 +16,7 @@ use Rattle.graph.specs.Conflicts.{holds_pair}
 use Rattle.graph.specs.Invariants.{Table}
 use Rattle.graph.proofs.Tables.{at-replicate}
 use Rattle.graph.proofs.Conflicts.{pair_found, conflict_parts}
-use Rattle.seats.specs.Seats.{fresh, seat_count, assigned, held, pair_seat}
+use Rattle.seats.specs.Seats.{fresh, seat_count, assigned, pair_seat}
 use Rattle.seats.specs.Invariants.{Invariant}
 
 nothing_in : (n i p : ℕ) → T (member p (at (replicate n empty) i)) → ⊥

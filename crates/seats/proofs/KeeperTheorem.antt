@@ -12,7 +12,6 @@ use Rattle.seats.specs.ListTheorem.{Start, from_fresh, from_image, ListTheorem}
 use Rattle.seats.specs.Promises.{StepPromise, KeeperStart, made_fresh, made_by_loading, DemandThreeOnCode}
 use Rattle.seats.specs.Reading.{read_state, read_answer}
 use Rattle.seats.specs.declared.State.{State}
-use Rattle.seats.specs.declared.Answer.{Answer}
 use Rattle.seats.proofs.ListTheorem.{list_theorem}
 
 -- A load that is accepted gives the state that the bytes hold.

@@ -34,7 +34,7 @@ use Rattle.seats.specs.ListTheorem as base-theorem
 use Rattle.seats.proofs.ListTheorem as base-proof
 use Rattle.sittings.specs.Sittings.{Sitting, excluded, is_active, covered, in_use, together}
 use Rattle.sittings.specs.Calls.{call, drawn_checks, perform, ask_active}
-use Rattle.sittings.specs.Records.{Decoded, malformed, well_formed, own_kind, own, decoded, decode, perform_decoded, step}
+use Rattle.sittings.specs.Records.{Decoded, malformed, own_kind, own, decoded, decode, perform_decoded, step}
 use Rattle.sittings.specs.Lists.{answers, end, without_refused}
 use Rattle.sittings.specs.ListTheorem.{Start, begins, Reaches, by_list, Excluded, Active, ListTheorem, DemandThree}
 use Rattle.sittings.specs.Invariants.{Invariant}

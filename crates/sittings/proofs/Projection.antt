@@ -14,7 +14,7 @@ use Rattle.seats.specs.Records as base-records
 use Rattle.seats.specs.Lists as base-lists
 use Rattle.sittings.specs.Sittings.{Sitting}
 use Rattle.sittings.specs.Calls.{Call, call, exclude, activate, deactivate, after, perform}
-use Rattle.sittings.specs.Records.{Decoded, malformed, well_formed, decoded, decode, perform_decoded, step}
+use Rattle.sittings.specs.Records.{Decoded, decoded, decode, perform_decoded, step}
 use Rattle.sittings.specs.Lists.{answers, end, without_refused, is_base, lifted, by_call, history}
 use Rattle.sittings.proofs.Settling.{refused_leaves, perform_accepted}
 use Rattle.sittings.proofs.Beside.{accepted_beside}

@@ -1,6 +1,5 @@
 -- `answer` meets its contract: what feeding gives, or where it stood.
 -- Assumes nothing.
-use borrow.Author.Rules.{rules}
 use mathlib.Core.Path.{sym}
 use lib.Seq.{length-take-le}
 use Rattle.sittings.specs.Reading.{read_sitting}

@@ -1,6 +1,5 @@
 -- `finish` meets its contract: what it writes is the last line, with the number of edges of the sitting.
 -- Assumes nothing.
-use borrow.Author.Rules.{rules}
 use mathlib.Core.Path.{sym, ap, ◌∙◌}
 use lib.Seq.{length-take-le}
 use Rattle.seats.specs.Tape.{end_line}

@@ -1,6 +1,5 @@
 -- `proceed` meets its contract: a failure and an answer both leave the program where a tape leads.
 -- Assumes nothing.
-use borrow.Author.Rules.{rules}
 use mathlib.Core.List.{[]}
 use Rattle.benchtape.proofs.Going.{within, proceeded}
 use Rattle.benchtape.proofs.proceed.Goals as goal

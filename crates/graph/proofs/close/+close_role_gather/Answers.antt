@@ -1,11 +1,10 @@
 -- `graph::close::close_role` and `graph::close::gather`, which call each other, meet their contracts: a role's entry is done once its juniors are gathered.
 -- What falls is the number of roles below the role (`number_below_falls`). Assumes nothing.
 use mathlib.Core.Path.{sym, ap, ◌∙◌, subst}
-use Prim.Native.Nat.{ℕ, ◌<◌}
+use Prim.Native.Nat.{ℕ}
 use native.Mathlib.Omega.{arith}
 use Rattle.sets.specs.Sets.{union}
 use Rattle.sets.proofs.Laws.{known_single}
-use Rattle.graph.specs.Tables.{at}
 use Rattle.graph.specs.Working.{Memo}
 use Rattle.graph.specs.Reading.{read_set, sets_in}
 use Rattle.graph.proofs.Acyclic.{number_below_falls}

@@ -3,7 +3,6 @@
 use borrow.Author.Rules.{rules}
 use mathlib.Core.Path.{◌∙◌, refl, sym, ap, subst}
 use lib.ListN.{length}
-use Rattle.sets.specs.Sets.{difference}
 use Rattle.graph.specs.Graph.{role_count}
 use Rattle.graph.specs.Reading.{sets_in}
 use Rattle.graph.specs.Working.{less_juniors}

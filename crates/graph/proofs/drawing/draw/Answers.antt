@@ -3,7 +3,6 @@
 use borrow.Author.Rules.{rules}
 use mathlib.Core.Path.{◌∙◌, refl, ap}
 use lib.ListN.{length}
-use Rattle.sets.specs.Sets.{difference}
 use Rattle.graph.specs.Graph.{role_count}
 use Rattle.graph.specs.Reading.{drawn_from}
 use Rattle.graph.specs.Working.{less_juniors}

@@ -3,7 +3,6 @@
 use borrow.Author.Rules.{rules}
 use mathlib.Core.Path.{◌∙◌}
 use mathlib.Core.Bool.{and-false}
-use mathlib.Core.Logic.{inl, inr}
 use Rattle.graph.specs.Graph.{role_count}
 use Rattle.graph.specs.Reading.{drawn_from}
 use Rattle.graph.proofs.DrawingCode.{between_tests}

@@ -2,7 +2,6 @@
 -- Assumes nothing.
 use borrow.Author.Rules.{rules}
 use mathlib.Core.Path.{◌≡◌, sym, ◌∙◌}
-use mathlib.Core.Logic.{inl, inr}
 use Rattle.sets.specs.Sets.{difference}
 use Rattle.graph.specs.Drawing.{roles_below}
 use Rattle.graph.specs.Reading.{drawn_from}

@@ -3,8 +3,7 @@
 use borrow.Author.Rules.{rules}
 use mathlib.Core.Path.{ap, ap₂, ◌∙◌}
 use mathlib.Core.Bool.{and-false}
-use mathlib.Core.Logic.{inl, inr}
-use Rattle.sets.specs.Sets.{member, strictly_included, when}
+use Rattle.sets.specs.Sets.{member, when}
 use Rattle.graph.specs.Graph.{role_count}
 use Rattle.graph.specs.Reading.{drawn_from}
 use Rattle.graph.proofs.DrawingCode.{lower_tests}

@@ -3,7 +3,6 @@
 use borrow.Author.Rules.{rules}
 use borrow.Author.Tests.{not-true, not-false}
 use mathlib.Core.Bool.{true}
-use mathlib.Core.Logic.{inl, inr}
 use mathlib.Core.Path.{◌≡◌, sym, ap, ◌∙◌}
 use Rattle.sets.specs.Sets.{member, intersection, union, difference}
 use Rattle.sets.proofs.Laws.{intersection-lt}

@@ -1,5 +1,5 @@
 use Rattle.sets.specs.Sets.{union, difference}
-use Rattle.graph.specs.Tables.{at, table}
+use Rattle.graph.specs.Tables.{at}
 use Rattle.graph.proofs.Loops.{Filling}
 use Rattle.graph.specs.Reading.{read_set, sets_in}
 use Rattle.graph.proofs.table.exchange_sets.Given as goal

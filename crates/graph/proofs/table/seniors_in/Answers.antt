@@ -2,7 +2,6 @@
 -- Assumes nothing.
 use mathlib.Core.Path.{◌∙◌}
 use borrow.Author.Rules.{rules}
-use Rattle.sets.specs.Sets.{member}
 use Rattle.sets.proofs.Laws.{known_single}
 use Rattle.graph.specs.Tables.{at}
 use Rattle.graph.proofs.Loops.{left_lowest, left_falls, collecting_none, collecting_next, collecting_done}

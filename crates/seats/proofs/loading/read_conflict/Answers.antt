@@ -9,7 +9,6 @@ use lib.Dec.{T, leb, ltb}
 use Rattle.sets.specs.Sets.{union, when, single}
 use Rattle.sets.proofs.Tests.{both, passes}
 use Rattle.graph.specs.Graph.{privilege_count}
-use Rattle.graph.specs.Tables.{at}
 use Rattle.seats.specs.Images.{pair_place}
 use Rattle.seats.specs.ImageWork.{Conflicts, entry_place, entry_passes}
 use Rattle.seats.proofs.ShortNumbers.{one_byte}

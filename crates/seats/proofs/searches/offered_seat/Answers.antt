@@ -1,6 +1,5 @@
 -- `seats::searches::offered_seat` meets its contract: it goes through the seats from 0 on, and one without roles holds no pair.
 -- Assumes nothing.
-use mathlib.Core.Logic.{inl, inr}
 use mathlib.Core.Path.{sym, ap, ◌∙◌}
 use Prim.Native.Nat.{ℕ}
 use Rattle.graph.specs.Graph.{effective}

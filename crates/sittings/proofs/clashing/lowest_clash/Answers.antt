@@ -1,7 +1,6 @@
 -- `sittings::clashing::lowest_clash` meets its contract: it goes through the rows from 0 on, each with the roles that are added to it.
 -- Assumes nothing.
 use mathlib.Core.Path.{◌≡◌, sym, ap, ◌∙◌}
-use Rattle.graph.specs.Tables.{at}
 use Rattle.graph.specs.Graph.{role_count}
 use Rattle.graph.specs.Reading.{read_found}
 use Rattle.seats.proofs.Scanning.{scanned_none, scanned_next, scanned_hit, scanned_miss}

@@ -2,7 +2,6 @@
 -- Assumes nothing.
 use mathlib.Core.Bool.{◌&&◌}
 use mathlib.Core.Path.{sym, ap₂, ◌∙◌}
-use Rattle.sets.specs.Sets.{member}
 use Rattle.graph.specs.Tables.{at}
 use Rattle.seats.specs.Seats.{seat_count}
 use Rattle.seats.proofs.Scanning.{scanned_none, scanned_next}

@@ -8,7 +8,6 @@ use mathlib.Core.List.{List}
 use Prim.Native.Nat.{ℕ, ◌^◌, ◌<◌, ◌≤◌}
 use lib.ListN.{length}
 use denote.Bor.{Bor}
-use native.Mathlib.Omega.{arith}
 use Rattle.seats.specs.Places.{is_end, record_at, record_end}
 use Rattle.seats.proofs.Feeding.{left_room, left_next, left_end}
 use Rattle.sittings.specs.Records.{step}
