@@ -16,14 +16,14 @@ export PATH := $(PATH):/opt/rattle/bin
 archive = target/staticlib/libkeeper.a
 shared = target/shared/libkeeper.so
 program = target/cargo/release/keeper
-sources := $(shell find crates -name '*.rt' -o -name '*.antt') crates.txt
+sources := $(shell find crates -name out -prune -o \( -name '*.rt' -o -name '*.antt' \) -print) crates.txt
 root = $(DESTDIR)$(PREFIX)
 
 all: $(archive) $(shared) program
 
 $(archive): $(sources)
 	@command -v rt >/dev/null || { echo 'make: the Rattle kit is missing: there is no rt in /opt/rattle/bin or in PATH'; exit 1; }
-	rt staticlib keeper
+	tools/static-library
 
 $(shared): $(archive)
 	mkdir -p $(@D)
@@ -48,7 +48,7 @@ install: all
 	    'Cflags: -I$${includedir}' 'Libs: -L$${libdir} -lkeeper' >$(root)/lib/pkgconfig/keeper.pc
 
 clean:
-	rm -rf target bindings/rust/target cli/target tests/keeper/target tests/reference/target bench/target examples/rust/target
+	rm -rf target out crates/*/out bindings/rust/target cli/target tests/keeper/target tests/reference/target bench/target examples/rust/target
 	find . -name __pycache__ -type d -prune -exec rm -rf {} +
 
 .PHONY: all program test install clean

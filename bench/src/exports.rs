@@ -1,4 +1,4 @@
-//! The C functions of `crates/keeper`, as `rt staticlib keeper` puts them into `target/staticlib/libkeeper.a`.
+//! The C functions of `crates/keeper`, as `tools/static-library` puts them into `target/staticlib/libkeeper.a`.
 //!
 //! A slice is a pointer and a length in elements. A block is 321 words: the roles, then 64 words each for the sets, the
 //! conflicts, the seats, the pairs of roles and the active roles. An answer is 0 for accepted and for a no, 1 for a yes,

@@ -14,7 +14,7 @@ fn main() {
     println!("cargo:rerun-if-changed={}", archive.display());
     if !archive.is_file() {
         eprintln!("There is no archive {}.", archive.display());
-        eprintln!("Run `rt staticlib keeper` in the repository's top folder, which proves the library and writes it,");
+        eprintln!("Run `tools/static-library` in the repository's top folder, which proves the library and writes it,");
         eprintln!("or name the folder of an installed libkeeper.a by KEEPER_LIBRARY.");
         exit(1);
     }
