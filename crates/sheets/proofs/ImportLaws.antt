@@ -22,7 +22,7 @@ use Rattle.sheets.specs.Working.{read_columns, count_of, ColumnsRead, known_set,
 use Rattle.sheets.specs.declared.lines.Columns as columns-enum
 use Rattle.sheets.specs.declared.lines.Columns.TheVariants as column-counts
 use Rattle.sheets.specs.declared.rows.Rows as rows-enum
-use Rattle.sheets.specs.declared.rows.Rows.TheVariants as row_Counts
+use Rattle.sheets.specs.declared.rows.Rows.TheVariants as row_counts
 use Rattle.sheets.proofs.FieldLaws.{length-rest}
 use Rattle.sheets.proofs.HeadingReading.{heading_sound, heading_shorter}
 use Rattle.sheets.proofs.RowLaws.{length-records}
@@ -66,7 +66,7 @@ module _ (s array : List ℕ) (r : columns-enum.Columns) (d : ColumnsRead s (hea
     by_width = ap (λ (m : ℕ). rows m (rest s at)) width
 
     module _ (q : rows-enum.Rows) (e : Counted found (length s - at) q) where
-      module _ {n : ℕ} (f : q ≡ row_Counts.Some n) where
+      module _ {n : ℕ} (f : q ≡ row_counts.Some n) where
         some_count : ◌≡◌ {A = ℕ × Bool} (n, false) (length found.0, found.1)
         unfolding read_rows
         some_count = rw f at e.counts
@@ -85,7 +85,7 @@ module _ (s array : List ℕ) (r : columns-enum.Columns) (d : ColumnsRead s (hea
             let m : length (rows (length (take count array)) (rest s at)).0 ≡ n = ap (λ (x : Found). length x.0) by_width ∙ sym (ap (λ (x : ℕ × Bool). x.0) some_count) in
             rw i (subst (λ (x : ℕ). Imports s b (refused 32 (x + 2)) b) m (fails g))
 
-      module _ {n : ℕ} (f : q ≡ row_Counts.All n) where
+      module _ {n : ℕ} (f : q ≡ row_counts.All n) where
         all_count : ◌≡◌ {A = ℕ × Bool} (n, true) (length found.0, found.1)
         unfolding read_rows
         all_count = rw f at e.counts

@@ -19,7 +19,7 @@ use Rattle.sheets.specs.Parsing.{Read, got, bad, rest, row, rows}
 use Rattle.sheets.specs.Working.{read_line, known_set, meant, known_records, read_rows, Counted}
 use Rattle.sheets.specs.declared.lines.Line as line-enum
 use Rattle.sheets.specs.declared.lines.Line.TheVariants as lines
-use Rattle.sheets.specs.declared.rows.Rows.TheVariants as row_Counts
+use Rattle.sheets.specs.declared.rows.Rows.TheVariants as row_counts
 use Rattle.graph.specs.Reading.{read_set}
 use Rattle.graph.specs.declared.PrivilegeSet as privilege-set-struct
 use Rattle.graph.specs.declared.Role as role-struct
@@ -85,7 +85,7 @@ module _ {s : List ℕ} {k start n place : ℕ} (c : Counting s k start n place)
       (sym (ap₂ (λ (x : ℕ) (y : Bool). (x, y)) (a ∙ b) (c.whole ∙ ap (λ (x : Found). x.1) z)), let o = c.room in omega arith)
 
   module _ (cs : List ℕ) (q : line-enum.Line) (e : read_line s q ≡ meant cs (row k (rest s place))) where
-    pub counting_no : place < length s → q ≡ lines.Bad → Counted (rows k (rest s start)) (length s - start) (row_Counts.Some n)
+    pub counting_no : place < length s → q ≡ lines.Bad → Counted (rows k (rest s start)) (length s - start) (row_counts.Some n)
     unfolding read_rows
     counting_no h f = let r = counted (no_row s cs k place q e h f) in record { counts = r.0; within = r.1 }
 
@@ -95,7 +95,7 @@ module _ {s : List ℕ} {k start n place : ℕ} (c : Counting s k start n place)
         let a = c.same ∙ ap (λ (x : Found). n + length x.0) z in
         record { room = let o = c.room in let l = row_falls s cs k place q e f in omega arith; same = omega arith; whole = c.whole ∙ ap (λ (x : Found). x.1) z }
 
-  pub counting_done : length s ≤ place → Counted (rows k (rest s start)) (length s - start) (row_Counts.All n)
+  pub counting_done : length s ≤ place → Counted (rows k (rest s start)) (length s - start) (row_counts.All n)
   unfolding read_rows
   counting_done h = let l = length-rest place s in let r = counted (rows-end k (rest s place) (omega arith)) in record { counts = r.0; within = r.1 }
 

@@ -17,7 +17,7 @@ use Rattle.sheets.specs.declared.lines.Marks.TheVariants as markings
 use Rattle.sheets.specs.declared.lines.Line as line-enum
 use Rattle.sheets.specs.declared.lines.Line.TheVariants as lines
 use Rattle.sheets.specs.declared.rows.Rows as rows-enum
-use Rattle.sheets.specs.declared.rows.Rows.TheVariants as row_Counts
+use Rattle.sheets.specs.declared.rows.Rows.TheVariants as row_counts
 
 -- A number read.
 unfoldable pub read_number : List ℕ → number-enum.Number → Read ℕ
@@ -57,8 +57,8 @@ read_line text lines.Bad = bad
 
 -- How many rows were found, and whether there is nothing behind them.
 unfoldable pub read_rows : rows-enum.Rows → ℕ × Bool
-read_rows (row_Counts.All n) = (n, true)
-read_rows (row_Counts.Some n) = (n, false)
+read_rows (row_counts.All n) = (n, true)
+read_rows (row_counts.Some n) = (n, false)
 
 -- Rows counted in a text of the length.
 pub record Counted (found : List Row × Bool) (size : ℕ) (r : rows-enum.Rows) : Type 0 where
