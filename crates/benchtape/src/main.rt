@@ -3,7 +3,7 @@
 // Proved: what is handed over to be written is, for each part of the bytes that reading gave, the lines that the definitions give for it after the parts before, and then the last line for them all.
 // A tape's lines are those of its parts and its last line that of the whole (`printed-parts`), so together they are what document 01 has printed.
 // Trusted: that the standard streams move the bytes as the library says. No contract can speak of what is read or written, so the order of the calls is seen in the code.
-// Where reading or writing fails, or 64 bits do not hold the number of records, the reason goes to standard error, and neither a further line nor the last line is written. A program's exit status is always 0, so a missing last line is the sign.
+// Where reading or writing fails, or 64 bits do not hold the number of records, the reason goes to standard error, and neither a further line nor the last line is written. The exit status is always 0, so a missing last line is the sign.
 
 #![tactic(auto)]
 

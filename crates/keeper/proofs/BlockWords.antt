@@ -89,6 +89,11 @@ module _ {W X : List ℕ} {r : ℕ} {S C A P U : List ℕ} (x : Has W X (tables 
   unfolding stands
   active_put w = has_written 5 tt x w
 
+-- Where roles and sets were written, the block has these, and its own tables behind them.
+pub roles_and_sets_put : {W Y t : List ℕ} → block_length ≤ length W → (k : ℕ) → Written (set W 0 k) sets_word t Y conflicts_word
+    → Has W Y (tables k t (conflicts_of W) (seats_of W) (pairs_of W) (active_of W))
+roles_and_sets_put {W} l k w = sets_put (roles_put (has_own W l) k) w
+
 -- A table in which one word is stored.
 pub stored_in : (W : List ℕ) (i n e v : ℕ) {t : List ℕ} → i + n ≤ length W → t ≡ set (table_at W i n) e v → Written W i (set (table_at W i n) e v) (take i W ++ (t ++ drop n (drop i W))) (i + n)
 stored_in W i n e v {t} h q =

@@ -1,5 +1,4 @@
--- `answer_all` meets its contract. The invariant: the program stands where the bytes read so far lead, and there may be more of them.
--- The measure: how many records more 64 bits can count.
+-- `answer_all` meets its contract.
 -- Assumes nothing.
 use borrow.Author.Rules.{rules}
 use borrow.Author.Tests.{not-false}

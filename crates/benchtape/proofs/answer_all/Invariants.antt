@@ -1,3 +1,5 @@
+-- The invariant: the program stands where the bytes read so far lead, and there may be more of them.
+-- The measure: how many records more 64 bits can count.
 use mathlib.Core.Bool.{true}
 use mathlib.Core.Path.{◌≡◌}
 use Prim.Native.Nat.{◌-◌, ◌^◌, ◌<◌}

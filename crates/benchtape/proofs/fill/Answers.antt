@@ -1,5 +1,4 @@
--- `fill` meets its contract. The invariant: what was read lies within the buffer, which is as long as it was.
--- The measure is the room left.
+-- `fill` meets its contract.
 -- Assumes nothing.
 use borrow.Author.Rules.{rules}
 use native.Mathlib.Omega.{arith}

@@ -1,3 +1,5 @@
+-- The invariant: what was read lies within the buffer, which is as long as it was.
+-- The measure is the room left.
 use mathlib.Core.Path.{◌≡◌}
 use Prim.Native.Nat.{◌-◌, ◌≤◌}
 use lib.ListN.{length}

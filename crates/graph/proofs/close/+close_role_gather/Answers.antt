@@ -13,28 +13,18 @@ use Rattle.graph.proofs.ExchangeLoops.{left_in}
 use Rattle.graph.proofs.Memo.{role_closed, Joined, joined_none, joined_next}
 use Rattle.graph.proofs.close.+close_role_gather.Goals as goal
 
-pub close_role-returns-clause-memo_after : goal.close_role-returns-clause-memo_after
-close_role-returns-clause-memo_after t c =
+pub close_role-returns : goal.close_role-returns
+close_role-returns t c =
     let p = c.requires in
     let g = c.gather-g in
     let w =
     role_closed c.args.done p.ending p.is_role g.ensures.memo_after g.ensures.kept g.ensures.gathered
     (c.union.ensures ∙ ap (λ (d : ℕ). union d (read_set g.result.set)) c.entry.ensures) (known_single p.is_role c.single.ensures) c.union-2.ensures in
-    subst (Memo (sets_in c.args.directs.now) c.args.juniors.now c.union-2.result) (sym c.store.ensures) w.0
-
-pub close_role-returns-clause-kept : goal.close_role-returns-clause-kept
-close_role-returns-clause-kept t c =
-    let p = c.requires in
-    let g = c.gather-g in
-    (role_closed c.args.done p.ending p.is_role g.ensures.memo_after g.ensures.kept g.ensures.gathered
-    (c.union.ensures ∙ ap (λ (d : ℕ). union d (read_set g.result.set)) c.entry.ensures) (known_single p.is_role c.single.ensures) c.union-2.ensures).1.0
-
-pub close_role-returns-clause-is_done : goal.close_role-returns-clause-is_done
-close_role-returns-clause-is_done t c =
-    let p = c.requires in
-    let g = c.gather-g in
-    (role_closed c.args.done p.ending p.is_role g.ensures.memo_after g.ensures.kept g.ensures.gathered
-    (c.union.ensures ∙ ap (λ (d : ℕ). union d (read_set g.result.set)) c.entry.ensures) (known_single p.is_role c.single.ensures) c.union-2.ensures).1.1
+    record {
+      memo_after = subst (Memo (sets_in c.args.directs.now) c.args.juniors.now c.union-2.result) (sym c.store.ensures) w.0;
+      kept = w.1.0;
+      is_done = w.1.1;
+    }
 
 pub gather-loop-rest-init : goal.gather-loop-rest-init
 gather-loop-rest-init t c =

@@ -11,7 +11,7 @@ use Rattle.seats.specs.declared.Answer.TheVariants.{Accepted}
 use Rattle.sittings.specs.Reading.{sitting_of}
 use Rattle.sittings.proofs.TakenCalls.{idle_change, together_change, apart_change}
 use Rattle.keeper.specs.Block.{conflicts_of, seats_of, pairs_of, active_of, state_in, sitting_in, code_of}
-use Rattle.keeper.proofs.BlockWords.{has_own, roles_put, sets_put, pairs_put, active_put, has_holding, holds_own}
+use Rattle.keeper.proofs.BlockWords.{roles_and_sets_put, pairs_put, active_put, has_holding, holds_own}
 use Rattle.keeper.proofs.BlockStates.{block_sized}
 use Rattle.keeper.proofs.CodedAnswer.{gives}
 use Rattle.keeper.proofs.changes.put_change.Goals as goal
@@ -21,7 +21,7 @@ pub put_table-requires : goal.put_table-requires
 put_table-requires c = simp length-set (omega (arith, c.requires.0))
 
 pub shape_of-block-then-is_idle : goal.shape_of-block-then-is_idle
-shape_of-block-then-is_idle c = (sets_put (roles_put (has_own c.args.block.now c.requires.0) c.args.roles) c.put_table.ensures).same_length
+shape_of-block-then-is_idle c = (roles_and_sets_put c.requires.0 c.args.roles c.put_table.ensures).same_length
 
 pub returns-then-is_idle : goal.returns-then-is_idle
 unfolding perform reply read_answer code_of answer_number answer_place
@@ -30,7 +30,7 @@ returns-then-is_idle c =
     let W = s.block.now in
     let h = state_of s.roles s.sets.now (conflicts_of W) (seats_of W) in
     let n = block_sized W c.requires.0 in
-    gives W accepted (sitting_of h (pairs_of W) (active_of W)) refl (has_holding (sets_put (roles_put (has_own W c.requires.0) s.roles) c.put_table.ensures))
+    gives W accepted (sitting_of h (pairs_of W) (active_of W)) refl (has_holding (roles_and_sets_put c.requires.0 s.roles c.put_table.ensures))
     (idle_change (sitting_in W) (read_change s.edit) (state_in W) h {a = Accepted} c.requires.1 refl (sym c.is_idle.ensures ∙ c.if-is_idle.true) n.pairs n.active)
 
 -- ---- 35 refuses it
@@ -49,18 +49,18 @@ put_table-requires-in-Passed c = simp length-set (omega (arith, c.requires.0))
 
 pub put_table-requires-in-Passed-2 : goal.put_table-requires-in-Passed-2
 put_table-requires-in-Passed-2 c =
-    let h = sets_put (roles_put (has_own c.args.block.now c.requires.0) c.args.roles) c.put_table-in-Passed.ensures in
+    let h = roles_and_sets_put c.requires.0 c.args.roles c.put_table-in-Passed.ensures in
     omega (arith, h.same_length, h.room)
 
 pub put_table-requires-in-Passed-3 : goal.put_table-requires-in-Passed-3
 put_table-requires-in-Passed-3 c =
-    let s = sets_put (roles_put (has_own c.args.block.now c.requires.0) c.args.roles) c.put_table-in-Passed.ensures in
+    let s = roles_and_sets_put c.requires.0 c.args.roles c.put_table-in-Passed.ensures in
     let h = pairs_put s c.put_table-in-Passed-2.ensures in
     omega (arith, h.same_length, h.room)
 
 pub shape_of-block-in-Passed : goal.shape_of-block-in-Passed
 shape_of-block-in-Passed c =
-    let s = sets_put (roles_put (has_own c.args.block.now c.requires.0) c.args.roles) c.put_table-in-Passed.ensures in
+    let s = roles_and_sets_put c.requires.0 c.args.roles c.put_table-in-Passed.ensures in
     (active_put (pairs_put s c.put_table-in-Passed-2.ensures) c.put_table-in-Passed-3.ensures).same_length
 
 pub returns-in-Passed : goal.returns-in-Passed
@@ -70,6 +70,6 @@ returns-in-Passed c =
     let W = s.block.now in
     let f = c.follow-next in
     let h = state_of s.roles s.sets.now (conflicts_of W) (seats_of W) in
-    let put = sets_put (roles_put (has_own W c.requires.0) s.roles) c.put_table-in-Passed.ensures in
+    let put = roles_and_sets_put c.requires.0 s.roles c.put_table-in-Passed.ensures in
     gives W accepted (sitting_of h f.result.pairs f.result.active) refl (has_holding (active_put (pairs_put put c.put_table-in-Passed-2.ensures) c.put_table-in-Passed-3.ensures))
     (apart_change (sitting_in W) (read_change s.edit) (state_in W) h {a = Accepted} c.requires.1 refl f.ensures.2 c.in-Passed.is f.ensures.0 f.ensures.1 (block_sized W c.requires.0).pairs)

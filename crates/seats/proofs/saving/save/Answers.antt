@@ -19,23 +19,10 @@ use Rattle.seats.specs.Written.{Written}
 use Rattle.seats.proofs.Written.{Unwritten, unwritten_length, piece_room, unwritten_next, unwritten_last}
 use Rattle.seats.proofs.SaveParts.{Counted, saves_nothing, image_fits, image_left, saves_all}
 use Rattle.seats.proofs.saving.save.Goals as goal
-use Rattle.seats.proofs.saving.save.Goals.{After-count_conflicts-c, After-distance-length, Else-buffer-length}
+use Rattle.seats.proofs.saving.save.Goals.{After-count_conflicts-c, After-distance-length}
 
 -- ---- the state, and the parts of its image
-counted : (c : After-distance-length)
-    → Counted (state_of c.args.roles c.args.sets.now c.args.conflicts.now c.args.seats.now) c.ordinary_roles-ordinary.result c.occupied-taken.result
-    (record { roles = c.size-r.result; seats = c.size-s.result; conflicts = c.count_conflicts-c.result }) c.distance-length.result
-counted c = record {
-  ordinary_are = c.ordinary_roles-ordinary.ensures;
-  occupied_are = c.occupied-taken.ensures;
-  roles_are = c.size-r.ensures;
-  seats_are = c.size-s.ensures;
-  conflicts_are = c.count_conflicts-c.ensures.0;
-  far_is = c.distance-length.ensures.0;
-}
-
--- Where the buffer has room.
-module _ (c : Else-buffer-length) where
+module _ (c : After-distance-length) where
   abbrev state : State
   state = state_of c.args.roles c.args.sets.now c.args.conflicts.now c.args.seats.now
 
@@ -43,8 +30,8 @@ module _ (c : Else-buffer-length) where
   abbrev counts : Counts
   counts = record { roles = c.size-r.result; seats = c.size-s.result; conflicts = c.count_conflicts-c.result }
 
-  counted_here : Counted state c.ordinary_roles-ordinary.result c.occupied-taken.result counts c.distance-length.result
-  counted_here = record {
+  counted : Counted state c.ordinary_roles-ordinary.result c.occupied-taken.result counts c.distance-length.result
+  counted = record {
     ordinary_are = c.ordinary_roles-ordinary.ensures;
     occupied_are = c.occupied-taken.ensures;
     roles_are = c.size-r.ensures;
@@ -72,11 +59,12 @@ module _ (c : Else-buffer-length) where
   abbrev Left : List ℕ → ℕ → List ℕ → Type 0
   Left buffer place rest = Unwritten c.args.buffer.now 0 (image state) buffer place rest
 
-  fits : 0 + length (image state) ≤ length c.args.buffer.now
-  fits = image_fits counted_here c.args.buffer.now c.if-buffer-length.false
+  -- Where the buffer has room, it has room for the image.
+  fits : c.distance-length.result ≤ length c.args.buffer.now → 0 + length (image state) ≤ length c.args.buffer.now
+  fits = image_fits counted c.args.buffer.now
 
   all_left : Left c.args.buffer.now 0 (top_part ++ (roles_part ++ (conflicts_part ++ (seats_part ++ trailer_part))))
-  all_left = image_left counted_here _
+  all_left = image_left counted _
 
   -- ---- what each writer leaves, after those before it
   top_written : {b : List ℕ} {i : ℕ} → Written c.args.buffer.now 0 top_part b i → Left b i (roles_part ++ (conflicts_part ++ (seats_part ++ trailer_part)))
@@ -117,50 +105,50 @@ returns-then-buffer-length c =
 
 pub put_set-roles_at-requires : goal.put_set-roles_at-requires
 put_set-roles_at-requires c =
-    let o = (goal.at.put_set-roles_at-requires c).Else-buffer-length in
+    let o = (goal.at.put_set-roles_at-requires c).After-distance-length in
     let l = length-bytes_of set_bytes (at (sets_in c.args.sets.now) max_role) in
-    let h = piece_room (top_part o) _ (all_left o) (fits o) in
+    let h = piece_room (top_part o) _ (all_left o) (fits o c.if-buffer-length.false) in
     omega arith
 
 pub put_table-conflicts_at-requires : goal.put_table-conflicts_at-requires
 unfolding value_bytes value_of
 put_table-conflicts_at-requires c =
-    let o = (goal.at.put_table-conflicts_at-requires c).Else-buffer-length in
-    piece_room (roles_part o) _ (top_written o (rw c.entry.ensures at c.put_set-roles_at.ensures)) (fits o)
+    let o = (goal.at.put_table-conflicts_at-requires c).After-distance-length in
+    piece_room (roles_part o) _ (top_written o (rw c.entry.ensures at c.put_set-roles_at.ensures)) (fits o c.if-buffer-length.false)
 
 pub put_conflicts-seats_at-requires : goal.put_conflicts-seats_at-requires
 unfolding value_bytes value_of
 put_conflicts-seats_at-requires c =
-    let o = (goal.at.put_conflicts-seats_at-requires c).Else-buffer-length in
+    let o = (goal.at.put_conflicts-seats_at-requires c).After-distance-length in
     let l = top_written o (rw c.entry.ensures at c.put_set-roles_at.ensures) in
-    piece_room (conflicts_part o) _ (roles_written o l c.put_table-conflicts_at.ensures) (fits o)
+    piece_room (conflicts_part o) _ (roles_written o l c.put_table-conflicts_at.ensures) (fits o c.if-buffer-length.false)
 
 pub put_table-trailer_at-requires : goal.put_table-trailer_at-requires
 unfolding value_bytes value_of
 put_table-trailer_at-requires c =
-    let o = (goal.at.put_table-trailer_at-requires c).Else-buffer-length in
+    let o = (goal.at.put_table-trailer_at-requires c).After-distance-length in
     let l = top_written o (rw c.entry.ensures at c.put_set-roles_at.ensures) in
     let m = roles_written o l c.put_table-conflicts_at.ensures in
-    piece_room (seats_part o) _ (conflicts_written o m c.put_conflicts-seats_at.ensures) (fits o)
+    piece_room (seats_part o) _ (conflicts_written o m c.put_conflicts-seats_at.ensures) (fits o c.if-buffer-length.false)
 
 pub put_trailer-requires : goal.put_trailer-requires
 unfolding value_bytes value_of
 put_trailer-requires c =
-    let o = (goal.at.put_trailer-requires c).Else-buffer-length in
+    let o = (goal.at.put_trailer-requires c).After-distance-length in
     let l = top_written o (rw c.entry.ensures at c.put_set-roles_at.ensures) in
     let m = roles_written o l c.put_table-conflicts_at.ensures in
     let u = seats_written o (conflicts_written o m c.put_conflicts-seats_at.ensures) c.put_table-trailer_at.ensures in
     let t = length-trailer (counts o) in
     let p = u.place in
     let n = unwritten_length u in
-    let f = fits o in
+    let f = fits o c.if-buffer-length.false in
     (omega arith, few (goal.at.put_trailer-requires c).After-count_conflicts-c)
 
 pub returns : goal.returns
 unfolding read_filled value_bytes value_of
 returns c =
-    let o = (goal.at.returns c).Else-buffer-length in
+    let o = (goal.at.returns c).After-distance-length in
     let l = top_written o (rw c.entry.ensures at c.put_set-roles_at.ensures) in
     let m = roles_written o l c.put_table-conflicts_at.ensures in
     let u = seats_written o (conflicts_written o m c.put_conflicts-seats_at.ensures) c.put_table-trailer_at.ensures in
-    saves_all (counted_here o) _ c.if-buffer-length.false (unwritten_last _ u c.put_trailer.ensures)
+    saves_all (counted o) _ c.if-buffer-length.false (unwritten_last _ u c.put_trailer.ensures)

@@ -1,4 +1,4 @@
--- `writing::digit_count` meets its contract. The invariant: the digits counted and those of what is left make one more than those of the number.
+-- `writing::digit_count` meets its contract.
 -- Assumes nothing.
 use native.Mathlib.Omega.{arith}
 use Rattle.seats.proofs.Digits.{width_small, width_large, width_word}

@@ -1,3 +1,4 @@
+-- The invariant: the digits counted and those of what is left make one more than those of the number.
 use mathlib.Core.Path.{◌≡◌}
 use Prim.Native.Nat.{◌+◌}
 use lib.ListN.{length}
