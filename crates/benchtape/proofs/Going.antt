@@ -14,10 +14,8 @@ use Rattle.graph.specs.Reading.{drawn_from}
 use Rattle.seats.specs.Bytes.{Filled, fill}
 use Rattle.seats.specs.Tape.{records, fed, PartAnswer, feed}
 use Rattle.seats.specs.Reading.{read_filled, read_part}
-use Rattle.seats.specs.declared.PartAnswer as part-enum
-use Rattle.seats.specs.declared.PartAnswer.TheVariants as part-answers
-use Rattle.seats.specs.declared.Filled as filled-enum
-use Rattle.seats.specs.declared.Filled.TheVariants.{Written}
+use Rattle.std.specs.Prelude.{Result, Ok}
+use Rattle.seats.specs.declared.FeedError.{FeedError}
 use Rattle.seats.proofs.TapeRecords.{count-records, fed_none, fed_append}
 use Rattle.seats.proofs.Written.{fill_written}
 use Rattle.seats.proofs.Feeding.{Told, feed_told}
@@ -38,16 +36,15 @@ pub within : {r : read-enum.Read} {n : ℕ} (buffer : List ℕ) → r ≡ Bytes 
 within buffer e w = subst (λ (r : read-enum.Read). Within r buffer) e w
 
 -- The lines that a buffer has at its front where feeding a part of a tape wrote them.
-pub fed_told : {answer : part-enum.PartAnswer} {n : ℕ} → answer ≡ part-answers.Written n → (s : Sitting) (count : ℕ) (bytes buffer : List ℕ) {m : List ℕ} {z : ℕ × Sitting}
+pub fed_told : {answer : Result ℕ FeedError} {n : ℕ} → answer ≡ Ok n → (s : Sitting) (count : ℕ) (bytes buffer : List ℕ) {m : List ℕ} {z : ℕ × Sitting}
     → ◌≡◌ {A = (PartAnswer × List ℕ) × (ℕ × Sitting)} ((read_part answer, m), z) (feed step s count bytes buffer) → Told step s count bytes n m z
 unfolding read_part
-fed_told w s count bytes buffer {m} {z} e = feed_told step s count bytes buffer (ap (λ (a : part-enum.PartAnswer). ((read_part a, m), z)) (sym w) ∙ e)
+fed_told w s count bytes buffer {m} {z} e = feed_told step s count bytes buffer (ap (λ (a : Result ℕ FeedError). ((read_part a, m), z)) (sym w) ∙ e)
 
 -- The line that a buffer has at its front where bytes were written.
-pub line_told : {filled : filled-enum.Filled} {n : ℕ} → filled ≡ Written n → (line buffer : List ℕ) {m : List ℕ}
-    → ◌≡◌ {A = Filled × List ℕ} (read_filled filled, m) (fill 9 line buffer) → (n ≤ length m) × (take n m ≡ line)
+pub line_told : {n : ℕ} (line buffer : List ℕ) {m : List ℕ} → ◌≡◌ {A = Filled × List ℕ} (read_filled (Ok n), m) (fill 9 line buffer) → (n ≤ length m) × (take n m ≡ line)
 unfolding read_filled
-line_told w line buffer {m} e = fill_written 9 buffer line (ap (λ (f : filled-enum.Filled). (read_filled f, m)) (sym w) ∙ e)
+line_told line buffer e = fill_written 9 buffer line e
 
 -- The edges of a sitting depend on its roles and sets alone.
 pub edges_of : (s : sitting-struct.Sitting) → edge_count (drawn_from s.roles s.sets) ≡ edge_count (read_sitting s).state.graph

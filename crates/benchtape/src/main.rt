@@ -16,7 +16,7 @@ ghost use Rattle.benchtape.specs.Progress.{Within, MoreWithin, last_line, Answer
 use graph::drawing;
 use seats::records::RECORD;
 use seats::text::LINE;
-use seats::{Filled, PartAnswer, text};
+use seats::{FeedError, text};
 use sittings::{Sitting, tape};
 use std::io::{Print, Read as _};
 
@@ -120,11 +120,10 @@ fn answer(rt: HostRuntime, progress: Progress, bytes: &[u8]) -> Progress
     let mut room = room();
     let sitting = progress.sitting;
     let fed = tape::feed(sitting, progress.count, bytes, &mut room);
-    let answered = fed.answer;
-    match answered {
-        PartAnswer::Uncounted => stop(rt, progress, b"benchtape: too many records\n"),
-        PartAnswer::TooShort(_) => stop(rt, progress, b"benchtape: no room for the lines\n"),
-        PartAnswer::Written(n) => {
+    match fed.answer {
+        Err(FeedError::Uncounted) => stop(rt, progress, b"benchtape: too many records\n"),
+        Err(FeedError::TooShort(_)) => stop(rt, progress, b"benchtape: no room for the lines\n"),
+        Ok(n) => {
             if !write_lines(rt, progress, bytes, &room[..n]) {
                 return stop(rt, progress, b"benchtape: writing failed\n");
             }
@@ -179,12 +178,11 @@ fn finish(rt: HostRuntime, progress: Progress)
     let sitting = progress.sitting;
     let sets = sitting.sets;
     let edges = drawing::edge_count(sitting.roles, &sets) as u64;
-    let filled = text::write_end(&mut room, progress.count, edges);
-    match filled {
-        Filled::TooShort(_) => {
+    match text::write_end(&mut room, progress.count, edges) {
+        Err(_) => {
             stop(rt, progress, b"benchtape: no room for the last line\n");
         }
-        Filled::Written(n) => {
+        Ok(n) => {
             if !write_last(rt, progress, &room[..n]) {
                 stop(rt, progress, b"benchtape: writing failed\n");
             }

@@ -7,7 +7,7 @@ use crate::choices::take_choice;
 use crate::codes::{NO_STATE, refusal_code};
 use crate::requests::take_request;
 use seats::State;
-use sittings::{Call, Decoded, records};
+use sittings::{Call, records};
 
 // Makes the block's sitting a fresh one.
 #[unsafe(no_mangle)]
@@ -40,8 +40,7 @@ pub extern "C" fn keeper_call(block: &mut [u64], bytes: &[u8]) -> u32
     if block.len() < WORDS {
         return NO_STATE;
     }
-    let decoded = records::decode(bytes);
-    let Decoded::WellFormed(step) = decoded else {
+    let Some(step) = records::decode(bytes) else {
         return refusal_code(1, 0);
     };
     let call = step.call;

@@ -5,8 +5,7 @@ ghost use Rattle.keeper.specs.BlockLists.{LoadPromise, SavePromise};
 
 use crate::block::{CONFLICTS, PAIRS, SEATS, SETS, WORDS, begin};
 use crate::codes::{NO_IMAGE, NO_STATE, NOT_SAVED, refusal_code};
-use graph::Verdict;
-use seats::{Filled, Measured, loading, saving};
+use seats::{loading, saving};
 
 // Saves the block's state into the buffer: the length written, or NOT_SAVED and the code of what hinders it.
 #[unsafe(no_mangle)]
@@ -19,10 +18,9 @@ pub extern "C" fn keeper_save(block: &[u64], buffer: &mut [u8]) -> u32
     let sets = &block[SETS..CONFLICTS];
     let conflicts = &block[CONFLICTS..SEATS];
     let seats = &block[SEATS..PAIRS];
-    let filled = saving::save(block[0], sets, conflicts, seats, buffer);
-    match filled {
-        Filled::Written(n) => n as u32,
-        Filled::TooShort(refusal) => NOT_SAVED + refusal_code(refusal.number, refusal.place),
+    match saving::save(block[0], sets, conflicts, seats, buffer) {
+        Ok(written) => written as u32,
+        Err(too_short) => NOT_SAVED + refusal_code(too_short.number, too_short.place),
     }
 }
 
@@ -31,10 +29,9 @@ pub extern "C" fn keeper_save(block: &[u64], buffer: &mut [u8]) -> u32
 pub extern "C" fn keeper_image_length(bytes: &[u8]) -> u32
     ensures { result ≡ image_length bytes.now }
 {
-    let measured = loading::image_length(bytes);
-    match measured {
-        Measured::Length(n) => n as u32,
-        Measured::Refused(refusal) => NOT_SAVED + refusal_code(refusal.number, refusal.place),
+    match loading::image_length(bytes) {
+        Ok(length) => length as u32,
+        Err(refusal) => NOT_SAVED + refusal_code(refusal.number, refusal.place),
     }
 }
 
@@ -46,13 +43,11 @@ pub extern "C" fn keeper_load(block: &mut [u64], bytes: &[u8]) -> u32
     if block.len() < WORDS {
         return NO_STATE;
     }
-    let image = loading::read_image(bytes);
-    let verdict = image.verdict;
-    match verdict {
-        Verdict::Passed => {
-            begin(block, image.state);
+    match loading::read_image(bytes) {
+        Ok(state) => {
+            begin(block, state);
             0
         }
-        Verdict::Refused(refusal) => refusal_code(refusal.number, refusal.place),
+        Err(refusal) => refusal_code(refusal.number, refusal.place),
     }
 }

@@ -20,7 +20,7 @@ use Rattle.seats.specs.Seats as seats
 use Rattle.seats.specs.Calls.{Call, change, declare, lift, assign, unassign, ask, accepted, refused, checks, with_graph, with_conflicts, with_seats, after, is_refusal}
 use Rattle.seats.specs.Calls as calls
 use Rattle.seats.specs.Records.{well_formed, decode, step}
-use Rattle.seats.specs.Images.{least_image, image, far_at, restored, Loaded, loaded, not_loaded, load, image_verdict, load_over, settle_load, measure}
+use Rattle.seats.specs.Images.{least_image, image, far_at, restored, Loaded, loaded, not_loaded, load, load_over, settle_load, measure}
 use Rattle.seats.specs.Saving.{save}
 use Rattle.seats.specs.Lists.{end}
 use Rattle.seats.specs.Promises.{StepPromise, LoadPromise}
@@ -41,7 +41,7 @@ use Rattle.seats.proofs.WholeChecks.{declare_by_whole, assign_by_whole}
 use Rattle.seats.proofs.LoadRefusals.{load_refusals}
 use Rattle.seats.proofs.LoadVerdict.{load_checks_in_order, load_settles, read_judged, read_passed, measure-refuses, measure_loads}
 use Rattle.seats.proofs.ImageAlone.{load_alone}
-use Rattle.seats.proofs.OneOutcome.{one_outcome, one-image, one_measured, one_left}
+use Rattle.seats.proofs.OneOutcome.{one_outcome, one_image, one_measured, one_left}
 use Rattle.seats.proofs.SaveOutcomes.{no_written, same_short, has_room, no_room, saves, front_loads, front_same}
 
 -- Two outcomes that are the same have the same answer and the same state.
@@ -77,7 +77,7 @@ pub demand_one : DemandOne
 demand_one = record {
   call_answered = λ s l. one_outcome (step (read_state s) l);
   load_answered = λ s l. one_outcome (load_over (read_state s) l);
-  read_answered = λ l. one-image (image_verdict (load l));
+  read_answered = λ l. one_image (load l);
   measure_answered = λ l. one_measured (measure l);
   save_answered = λ s buffer. one_left (save s buffer);
   call_refused = λ s t l a n p e r.

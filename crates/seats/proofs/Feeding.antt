@@ -1,26 +1,91 @@
 -- Feeding a part of a tape: what is left of it, with the buffer and the state so far, comes to what the whole part comes to; and what a caller learns.
 -- Assumes nothing.
 use mathlib.Core.Bool.{Bool, true, false, cond, ◌||◌}
-use mathlib.Core.List.{List, [], ◌++◌}
+use mathlib.Core.List.{List, [], ◌++◌, append_assoc, append-nil}
 use mathlib.Core.Path.{◌≡◌, refl, sym, ap, ap₂, ◌∙◌}
-use Prim.Native.Nat.{ℕ, ◌+◌, ◌*◌, ◌/◌, ◌^◌, ◌≤◌, ◌<◌}
+use Prim.Native.Nat.{ℕ, min, ◌+◌, ◌-◌, ◌*◌, ◌/◌, ◌^◌, ◌≤◌, ◌<◌}
+use native.Mathlib.Nat.{zero-add}
 use native.Mathlib.Omega.{arith}
 use lib.ListN.{length, take, drop, length-append, length-drop, drop_of_length-le}
-use lib.Seq.{sets, length-sets}
+use lib.Seq.{sets, sets-eq, length-sets, take_all, drop-drop}
+use borrow.Rule.Slice.PartMut.{put_mid}
+use Rattle.std.proofs.lemmas.List.{take-append-drop}
 use lib.Dec.{leb, ltb}
+use native.Mathlib.Decide.{dec_lt}
 use borrow.Author.Tests.{le-leb, lt-leb, lt-ltb, le-ltb, leb-true, leb-false, ltb-true}
 use Rattle.seats.specs.Bytes.{Filled, written, too_short, fill}
 use Rattle.seats.specs.Calls.{Answer}
 use Rattle.seats.specs.Places.{record_at, record_end}
 use Rattle.seats.specs.Tape.{records, line, fed, PartAnswer, fills, uncounted, feed}
-use Rattle.seats.specs.Working.{record_count, longest_line, Lined, PartRun}
+use Rattle.seats.specs.Working.{record_count, longest_line, LinePut, PartRun}
 use Rattle.seats.specs.Written.{Written}
-use Rattle.seats.specs.declared.text.Lines.{Lines}
 use Rattle.seats.proofs.Written.{Unwritten, unwritten_all, unwritten_next, unwritten_none, filled, unfilled, fill_written}
+use Rattle.seats.proofs.Lines.{line_some}
 use Rattle.seats.proofs.TapeRecords.{count-records, records_first, fed_none}
 use Rattle.seats.proofs.TapePlaces.{records_more, fed_more}
 
 -- ---- one line more
+-- Lines of a tape: the index of the last, and how many bytes they have.
+pub record Lines : Type 0 where
+  pub index : ℕ
+  pub length : ℕ
+
+-- The lines r are the lines b with that of the next record, whose answer is a: it is written behind them where the buffer has room for it.
+pub record Lined (buffer : List ℕ) (b : Lines) (a : Answer) (after : List ℕ) (r : Lines) : Type 0 where
+  pub counted : r.index ≡ b.index + 1
+  pub longer : r.length ≡ b.length + length (line r.index a)
+  pub bounded : r.length ≤ b.length + longest_line
+  pub put : after ≡ cond (leb r.length (length buffer)) (sets buffer b.length (line r.index a)) buffer
+
+-- What is written at the front of the part of a buffer from place k on.
+put_behind : (l w : List ℕ) (k : ℕ) {m : List ℕ} → k ≤ length l → m ≡ sets (drop k l) 0 w → length w ≤ length (drop k l) → put_mid k (length l - k) l m ≡ sets l k w
+put_behind l w k {m} h e f =
+    let d = drop k l in
+    let a = length-drop k l in
+    let front : sets d 0 w ≡ w ++ drop (length w) d = sets-eq w d 0 (omega arith) ∙ ap (λ (n : ℕ). w ++ drop n d) (zero-add (length w)) in
+    let none : drop (length l - k) d ≡ [] = drop_of_length-le d (omega arith) in
+    ap₂ (λ (x y : List ℕ). take k l ++ (x ++ y)) (e ∙ front) none
+    ∙ ap (λ (x : List ℕ). take k l ++ x) (append-nil (w ++ drop (length w) d) ∙ ap (λ (x : List ℕ). w ++ x) (drop-drop (length w) k l))
+    ∙ sym (append_assoc (take k l) w (drop (k + length w) l)) ∙ sym (sets-eq w l k (omega arith))
+
+-- Nothing is written there.
+put_nothing : (l : List ℕ) (k : ℕ) {m : List ℕ} → m ≡ drop k l → put_mid k (length l - k) l m ≡ l
+put_nothing l k e =
+    let a = length-drop k l in
+    let none : drop (length l - k) (drop k l) ≡ [] = drop_of_length-le (drop k l) (omega arith) in
+    ap₂ (λ (x y : List ℕ). take k l ++ (x ++ y)) e none ∙ ap (λ (x : List ℕ). take k l ++ x) (append-nil (drop k l)) ∙ take-append-drop k l
+
+-- The line of the next record is put into what is left of the buffer behind the lines, which is nothing where these have no room.
+pub line_behind : (l : List ℕ) (b : Lines) (a : Answer) {k n : ℕ} {m : List ℕ} → k ≡ min b.length (length l) → LinePut (take (length l - k) (drop k l)) (b.index + 1) a m n
+    → Lined l b a (put_mid k (length l - k) l m) (record { index = b.index + 1; length = b.length + n })
+line_behind l b a {k} {n} {m} e p = record {
+  counted = refl;
+  longer = ap (λ (x : ℕ). b.length + x) p.long;
+  bounded = let h = p.bounded in omega arith;
+  put = elim (dec_lt (length l) (b.length + n)) [
+    | yes h ↦ rw (lt-leb (b.length + n) (length l) h) (put_nothing l k (put ∙ rw (lt-leb n (length d) (short h))))
+    | no h ↦ (
+        let x : b.length + n ≤ length l = omega (arith, h) in
+        let s : k ≡ b.length = omega arith in
+        rw (le-leb (b.length + n) (length l) x, ← s) (put_behind l w k (omega arith) (put ∙ rw (le-leb n (length d) (room x))) (rw (← p.long) (room x))))
+  ];
+}
+  where
+    w : List ℕ
+    w = line (b.index + 1) a
+
+    d : List ℕ
+    d = drop k l
+
+    put : m ≡ cond (leb n (length d)) (sets d 0 w) d
+    put = let f = length-drop k l in rw (take_all (length l - k) d (omega arith)) at p.put
+
+    short : length l < b.length + n → length d < n
+    short h = let f = length-drop k l in let q = p.long in let s = line_some (b.index + 1) a in omega arith
+
+    room : b.length + n ≤ length l → n ≤ length d
+    room h = let f = length-drop k l in omega arith
+
 -- The buffer stays as long as it was.
 pub lined_length : {l m : List ℕ} {b r : Lines} {a : Answer} → Lined l b a m r → length m ≡ length l
 lined_length {l} {m} {b} {r} {a} w = ap length w.put ∙ go (leb r.length (length l))
@@ -91,7 +156,7 @@ module _ {S : Type 0} (step : S → List ℕ → Answer × S) where
         }
 
     -- Nothing is left.
-    pub left_end : {l : List ℕ} {b : Lines} {start : ℕ} {s : S} → Left l₀ count part s₀ l b start s → length part ≤ start → PartRun step s₀ count part l₀ b s l
+    pub left_end : {l : List ℕ} {b : Lines} {start : ℕ} {s : S} → Left l₀ count part s₀ l b start s → length part ≤ start → PartRun step s₀ count part l₀ b.index b.length s l
     left_end {l} {b} {start} {s} w h =
         let d : drop start part ≡ [] = drop_of_length-le part h in
         let f = ap (fed step s b.index) d ∙ fed_none step s b.index in
@@ -130,8 +195,8 @@ module _ {S : Type 0} (step : S → List ℕ → Answer × S) where
           ∙ sym counts
 
       -- The part is run, its lines having room.
-      pub feed_run : {b : Lines} {t : S} {m : List ℕ} → PartRun step s count part buffer b t m → b.length ≤ length buffer
-          → ◌≡◌ {A = Result} ((fills (written b.length), m), (b.index, t)) (feed step s count part buffer)
+      pub feed_run : {index n : ℕ} {t : S} {m : List ℕ} → PartRun step s count part buffer index n t m → n ≤ length buffer
+          → ◌≡◌ {A = Result} ((fills (written n), m), (index, t)) (feed step s count part buffer)
       feed_run p h =
           let e = p.long in
           let k : length (fed step s count part).0 ≤ length buffer = omega arith in
@@ -148,7 +213,7 @@ module _ {S : Type 0} (step : S → List ℕ → Answer × S) where
     longest_fits room e h = let k = count-records part in rw (le-leb (longest_line * length (records part)) room (omega arith))
 
     -- They are measured by running them.
-    pub measured_fits : {n : ℕ} {b : Lines} {t : S} {m : List ℕ} (room : ℕ) → n ≡ record_count (length part) → room / longest_line < n → PartRun step s count part buffer b t m → leb b.length room ≡ Test room
+    pub measured_fits : {n index long : ℕ} {t : S} {m : List ℕ} (room : ℕ) → n ≡ record_count (length part) → room / longest_line < n → PartRun step s count part buffer index long t m → leb long room ≡ Test room
     measured_fits room e h p =
         let k = count-records part in
         rw (lt-leb (longest_line * length (records part)) room (omega arith)) (ap (λ (n : ℕ). leb n room) p.long)
@@ -163,10 +228,10 @@ module _ {S : Type 0} (step : S → List ℕ → Answer × S) where
         go false b h = h
 
     -- They have, and what running them wrote lies within.
-    pub test_holds : {x : Bool} {b : Lines} {t : S} {m : List ℕ} (room : ℕ) → x ≡ Test room → x ≡ true → PartRun step s count part buffer b t m → b.length ≤ room
-    test_holds {b = b} room e h p = go (leb (longest_line * length (records part)) room) (leb (length (fed step s count part).0) room) refl refl (sym e ∙ h)
+    pub test_holds : {x : Bool} {index n : ℕ} {t : S} {m : List ℕ} (room : ℕ) → x ≡ Test room → x ≡ true → PartRun step s count part buffer index n t m → n ≤ room
+    test_holds {n = n} room e h p = go (leb (longest_line * length (records part)) room) (leb (length (fed step s count part).0) room) refl refl (sym e ∙ h)
       where
-        go : (y z : Bool) → leb (longest_line * length (records part)) room ≡ y → leb (length (fed step s count part).0) room ≡ z → (y || z) ≡ true → b.length ≤ room
+        go : (y z : Bool) → leb (longest_line * length (records part)) room ≡ y → leb (length (fed step s count part).0) room ≡ z → (y || z) ≡ true → n ≤ room
         go true z x y h = let k = leb-true (longest_line * length (records part)) room x in let l = p.bounded in omega arith
         go false true x y h = let k = leb-true (length (fed step s count part).0) room y in let l = p.long in omega arith
         go false false x y h = let z : ◌≡◌ {A = ℕ} 0 1 = cc in absurd (omega arith)

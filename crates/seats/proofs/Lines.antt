@@ -1,4 +1,4 @@
--- The two kinds of lines of a tape: each is a text with two numbers behind it; and the lines with that of one record more.
+-- The two kinds of lines of a tape: each is a text with two numbers behind it; and what is put of the line of a record.
 -- Assumes nothing.
 use mathlib.Core.Bool.{Bool, cond}
 use mathlib.Core.List.{List, [], ◌∷◌, ◌++◌, append_assoc}
@@ -11,9 +11,8 @@ use borrow.Author.Tests.{le-leb, lt-leb}
 use Rattle.seats.specs.Bytes.{written, too_short, fill}
 use Rattle.seats.specs.Calls.{Answer}
 use Rattle.seats.specs.Tape.{digits, answer_number, answer_place, space, line_feed, line, end_line}
-use Rattle.seats.specs.Working.{tail_of, longest_line, line_length, Lined}
+use Rattle.seats.specs.Working.{tail_of, longest_line, line_length, LinePut}
 use Rattle.seats.specs.Written.{Written}
-use Rattle.seats.specs.declared.text.Lines.{Lines}
 use Rattle.seats.proofs.Digits.{width_word, width_byte}
 use Rattle.seats.proofs.Written.{filled, unfilled}
 
@@ -49,7 +48,7 @@ module _ (l t w : List ℕ) (x y : ℕ) (e : t ≡ w ++ tail_of x y) where
   pub line_unfilled : length l < length w + length (digits x) + length (digits y) + 3 → (too_short 9 0, l) ≡ fill 9 t l
   line_unfilled h = unfilled 9 l t (omega (arith, length_joined))
 
--- ---- the lines with one more
+-- ---- the line of a record
 -- The line of an index and two bytes is at most the longest line.
 pub line_bound : {i x y : ℕ} → i < 2 ^ 64 → x < 256 → y < 256 → line_length i x y ≤ longest_line
 line_bound {i} {x} {y} h p q =
@@ -58,32 +57,32 @@ line_bound {i} {x} {y} h p q =
     let d = width_byte y q in
     omega arith
 
--- The line of the record behind the lines b, whose answer a has the number x and the place y.
-module _ (l : List ℕ) (b : Lines) (a : Answer) {x y : ℕ} (xa : x ≡ answer_number a) (ya : y ≡ answer_place a) (fits : b.index + 1 < 2 ^ 64) (xb : x < 256) (yb : y < 256) where
+-- A line is not empty.
+pub line_some : (i : ℕ) (a : Answer) → 3 ≤ length (line i a)
+line_some i a = omega (arith, length_joined [] (line i a) (digits i) (answer_number a) (answer_place a) (line-joined i a {x = answer_number a} {y = answer_place a} refl refl))
+
+-- The line of the record i, whose answer a has the number x and the place y.
+module _ (l : List ℕ) (i : ℕ) (a : Answer) {x y : ℕ} (xa : x ≡ answer_number a) (ya : y ≡ answer_place a) (fits : i < 2 ^ 64) (xb : x < 256) (yb : y < 256) where
   -- How long it is.
-  long : length (line (b.index + 1) a) ≡ line_length (b.index + 1) x y
-  long = length_joined [] (line (b.index + 1) a) (digits (b.index + 1)) x y (line-joined (b.index + 1) a xa ya)
+  long : length (line i a) ≡ line_length i x y
+  long = length_joined [] (line i a) (digits i) x y (line-joined i a xa ya)
 
   -- It has no room.
-  pub lined_not : length l < b.length + line_length (b.index + 1) x y
-      → Lined l b a l (record { index = b.index + 1; length = b.length + line_length (b.index + 1) x y })
-  lined_not h = record {
-    counted = refl;
-    longer = ap (λ (n : ℕ). b.length + n) (sym long);
-    bounded = let k = line_bound fits xb yb in omega arith;
-    put = sym (ap (λ (t : Bool). cond t (sets l b.length (line (b.index + 1) a)) l) (lt-leb (b.length + line_length (b.index + 1) x y) (length l) h));
+  pub line_left_out : length l < line_length i x y → LinePut l i a l (line_length i x y)
+  line_left_out h = record {
+    long = sym long;
+    bounded = line_bound fits xb yb;
+    put = sym (ap (λ (t : Bool). cond t (sets l 0 (line i a)) l) (lt-leb (line_length i x y) (length l) h));
   }
 
   -- It is written.
-  pub lined : {m : List ℕ} {j : ℕ} → b.length + line_length (b.index + 1) x y ≤ length l → Written l b.length (digits (b.index + 1) ++ tail_of x y) m j
-      → Lined l b a m (record { index = b.index + 1; length = j })
-  lined {m} {j} h w =
-      let p : Written l b.length (line (b.index + 1) a) m j = subst (λ (v : List ℕ). Written l b.length v m j) (sym (line-joined (b.index + 1) a xa ya)) w in
+  pub line_put : {m : List ℕ} {j : ℕ} → line_length i x y ≤ length l → Written l 0 (digits i ++ tail_of x y) m j → LinePut l i a m j
+  line_put {m} {j} h w =
+      let p : Written l 0 (line i a) m j = subst (λ (v : List ℕ). Written l 0 v m j) (sym (line-joined i a xa ya)) w in
       let e = p.place in
       let n = long in
       record {
-        counted = refl;
-        longer = e;
+        long = omega arith;
         bounded = let k = line_bound fits xb yb in omega arith;
-        put = p.list ∙ sym (ap (λ (t : Bool). cond t (sets l b.length (line (b.index + 1) a)) l) (le-leb j (length l) (omega arith)));
+        put = p.list ∙ sym (ap (λ (t : Bool). cond t (sets l 0 (line i a)) l) (le-leb j (length l) (omega arith)));
       }

@@ -6,10 +6,9 @@ use mathlib.Core.Logic.{◌≢◌, inl, inr}
 use mathlib.Core.List.{List, [], ◌∷◌, ◌++◌}
 use Prim.Native.Nat.{ℕ, ◌-◌, ◌<◌, ◌≤◌}
 use lib.ListN.{length, replicate}
-use lib.Bits.{or_zero_l}
 use lib.Dec.{T, T_not, not_T, eqb, ltb, ltb→lt, lt→ltb}
 use borrow.Author.Tests.{lt-ltb, le-ltb, le-leb, lt-leb, eq-eqb, ne_eqb}
-use Rattle.sets.specs.Sets.{empty, union, included}
+use Rattle.sets.specs.Sets.{empty, included}
 use Rattle.sets.proofs.Tests.{both, join, passes, fails, decide}
 use Rattle.graph.specs.Graph.{privilege_count}
 use Rattle.graph.specs.Refusing.{Check, Verdict, passed, refused, verdict, Passes}
@@ -17,13 +16,13 @@ use Rattle.graph.specs.Reading.{read_verdict}
 use Rattle.graph.specs.declared.Verdict.TheVariants.{Passed, Refused}
 use Rattle.graph.proofs.Refusals.{verdict_passes}
 use Rattle.graph.proofs.Judging.{stops, moves_on, refused_first, passed_first}
-use Rattle.seats.specs.Seats.{State, seat_count}
-use Rattle.seats.specs.Images.{Entry, least_image, Counts, distance, Contents, far_at, counts_at, contents, keys, stored, stored_pairs, end_sets, restored, no_ordinary_number, entry_checks, content_checks, Loaded, loaded, not_loaded, image_verdict, unless_refused, load_contents, load_trailer, load}
-use Rattle.seats.specs.ImageWork.{Part, Roles, Conflicts, Seats, entry_place, entry_passes, store_entries, ascends, ContentsRead}
+use Rattle.seats.specs.Seats.{State, seat_count, fresh}
+use Rattle.seats.specs.Images.{Entry, least_image, Counts, distance, Contents, far_at, counts_at, contents, keys, end_sets, restored, no_ordinary_number, entry_checks, content_checks, Loaded, loaded, not_loaded, image_verdict, unless_refused, load_contents, load_trailer, load}
+use Rattle.seats.specs.ImageWork.{Part, Roles, Conflicts, Seats, entry_place, entry_passes, store_entries, ascends, EntriesStored}
 use Rattle.seats.proofs.EntryBytes.{Each, each_map}
 use Rattle.seats.proofs.AscendingEntries.{Rising}
 use Rattle.seats.proofs.LoadFacts.{role_number, number_role, Ordered, ordered, ordered_passes}
-use Rattle.seats.proofs.EntryReading.{ascends_rising, rising_ascends, PartRead}
+use Rattle.seats.proofs.EntryReading.{ascends_rising, rising_ascends}
 
 -- ---- the entries
 module _ (c : Contents) where
@@ -93,82 +92,69 @@ alike_verdict n p l h false f g = refuses l h g
         ]
 
 -- ---- the contents
--- What reading the parts leaves and tests is what the contents describe and refusal 7 tests.
-module _ (c : Contents) {sets conflicts seats : List ℕ} {present other another : ℕ} {a b d : Bool}
-    (r : PartRead Roles 0 c.roles (end_sets c.top) present sets a) (p : PartRead Conflicts 0 c.conflicts (replicate privilege_count empty) other conflicts b)
-    (s : PartRead Seats present c.seats (replicate seat_count empty) another seats d) where
-  keyed : a ≡ true → present ≡ keys c.roles
-  unfolding union store_entries
-  keyed e = ap (λ (z : ℕ × List ℕ). z.0) (r.filled e) ∙ or_zero_l (keys c.roles)
+-- What all entries are tested for is what refusal 7 tests.
+module _ (c : Contents) where
+  entries_verdict : (b : Bool) → b ≡ entries_test c → verdict (entry_checks c) ≡ cond b passed (refused 7 0)
+  unfolding entry_checks
+  entries_verdict b e =
+      alike_verdict 7 0 (entry_checks c)
+      ((refl, refl), ((refl, refl), ((refl, refl), ((refl, refl), ((refl, refl), ((refl, refl), ((refl, refl), ((refl, refl), ((refl, refl), tt)))))))))
+      b (λ t. ordered_passes c (test_ordered c (subst T e t))) (λ q. subst T (sym e) (ordered_test c (ordered c q)))
 
-  sound_test : (a && b) && d ≡ entries_test c
-  sound_test = by_roles a refl ∙ ap (λ (x : Bool). (x && tests c Conflicts 0 c.conflicts) && tests c Seats (keys c.roles) c.seats) r.tested
-    where
-      by_roles : (x : Bool) → a ≡ x → (x && b) && d ≡ (x && tests c Conflicts 0 c.conflicts) && tests c Seats (keys c.roles) c.seats
-      by_roles true e = ap₂ ◌&&◌ p.tested (s.tested ∙ ap (λ (x : ℕ). tests c Seats x c.seats) (keyed e))
-      by_roles false e = refl
+  -- The roles, the conflicts, or behind those the seats are refused.
+  pub roles_stop : tests c Roles 0 c.roles ≡ false → verdict (entry_checks c) ≡ refused 7 0
+  roles_stop r = entries_verdict false (rw r)
 
-  -- The tables that the parts leave where they pass.
-  sets_read : a ≡ true → sets ≡ stored c.roles (end_sets c.top)
-  unfolding store_entries
-  sets_read e = ap (λ (z : ℕ × List ℕ). z.1) (r.filled e)
+  pub conflicts_stop : tests c Roles 0 c.roles ≡ true → tests c Conflicts 0 c.conflicts ≡ false → verdict (entry_checks c) ≡ refused 7 0
+  conflicts_stop r p = entries_verdict false (rw (r, p))
 
-  conflicts_read : b ≡ true → conflicts ≡ stored_pairs c.conflicts (replicate privilege_count empty)
-  unfolding store_entries
-  conflicts_read e = ap (λ (z : ℕ × List ℕ). z.1) (p.filled e)
+  module _ {sets conflicts : List ℕ} {present other : ℕ} (r : EntriesStored Roles 0 c.roles (end_sets c.top) sets present) (p : EntriesStored Conflicts 0 c.conflicts (replicate privilege_count empty) conflicts other) where
+    seats_test : (b : Bool) → tests c Seats present c.seats ≡ b → b ≡ entries_test c
+    seats_test b s = rw (r.tested, p.tested) (sym s ∙ ap (λ (x : ℕ). tests c Seats x c.seats) r.keyed)
 
-  seats_read : d ≡ true → seats ≡ stored c.seats (replicate seat_count empty)
-  unfolding store_entries
-  seats_read e = ap (λ (z : ℕ × List ℕ). z.1) (s.filled e)
+    pub seats_stop : tests c Seats present c.seats ≡ false → verdict (entry_checks c) ≡ refused 7 0
+    seats_stop s = entries_verdict false (seats_test false s)
 
-  pub contents_read : ContentsRead c (record { graph = record { roles = present; sets = sets; conflicts = conflicts }; seats = seats }) ((a && b) && d)
-  unfolding restored entry_checks
-  contents_read = record {
-    tested =
-        alike_verdict 7 0 (entry_checks c)
-        ((refl, refl), ((refl, refl), ((refl, refl), ((refl, refl), ((refl, refl), ((refl, refl), ((refl, refl), ((refl, refl), ((refl, refl), tt)))))))))
-        ((a && b) && d) (λ t. ordered_passes c (test_ordered c (subst T sound_test t)))
-        (λ q. subst T (sym sound_test) (ordered_test c (ordered c q)));
-    described = λ e.
-        let (x, y) = both (a && b) d (subst T (sym e) tt) in
-        let (u, v) = both a b x in
-        let k = keyed (passes a u) in
-        let f = sets_read (passes a u) in
-        let g = conflicts_read (passes b v) in
-        let h = seats_read (passes d y) in
-        λ i. record { graph = record { roles = k i; sets = f i; conflicts = g i }; seats = h i };
-  }
+    -- All are stored.
+    pub contents_read : {seats : List ℕ} {another : ℕ} → EntriesStored Seats present c.seats (replicate seat_count empty) seats another
+        → (verdict (entry_checks c) ≡ passed) × (◌≡◌ {A = State} (record { graph = record { roles = present; sets = sets; conflicts = conflicts }; seats = seats }) (restored c))
+    unfolding restored store_entries
+    contents_read s = (
+      entries_verdict true (seats_test true s.tested),
+      let k = r.keyed in
+          let f = r.filled in
+          let g = p.filled in
+          let h = s.filled in
+          λ i. record { graph = record { roles = k i; sets = f i; conflicts = g i }; seats = h i },
+    )
 
-module _ {c : Contents} {h : State} {b : Bool} (w : ContentsRead c h b) where
-  -- The verdict on all checks of the contents.
-  abbrev all_checks : List Check
-  all_checks = entry_checks c ++ content_checks (restored c)
+-- The verdict on all checks of the contents.
+abbrev all_checks : Contents → List Check
+all_checks c = entry_checks c ++ content_checks (restored c)
 
-  pub entries_refused : b ≡ false → load_contents c ≡ not_loaded 7 0
-  unfolding load_contents unless_refused read_verdict
-  entries_refused e =
-      let q : verdict (entry_checks c) ≡ refused 7 0 = w.tested ∙ ap (λ (x : Bool). cond x passed (refused 7 0)) e in
-      let z : refused 7 0 ≡ verdict all_checks = refused_first (entry_checks c) (content_checks (restored c)) {v = Refused (record { number = 7; place = 0 })} (sym q) refl in
-      ap (λ (v : Verdict). unless_refused v (restored c)) (sym z)
+pub entries_refused : (c : Contents) → verdict (entry_checks c) ≡ refused 7 0 → load_contents c ≡ not_loaded 7 0
+unfolding load_contents unless_refused read_verdict
+entries_refused c q =
+    let z : refused 7 0 ≡ verdict (all_checks c) = refused_first (entry_checks c) (content_checks (restored c)) {v = Refused (record { number = 7; place = 0 })} (sym q) refl in
+    ap (λ (v : Verdict). unless_refused v (restored c)) (sym z)
 
-  module _ (e : b ≡ true) (x : Bool) (k : verdict (content_checks h) ≡ cond x passed (refused 8 0)) where
-    state_verdict : verdict all_checks ≡ cond x passed (refused 8 0)
-    unfolding read_verdict
-    state_verdict =
-        let q : verdict (entry_checks c) ≡ passed = w.tested ∙ ap (λ (x : Bool). cond x passed (refused 7 0)) e in
-        passed_first (entry_checks c) (content_checks (restored c)) {v = Passed} (sym q) refl
-        ∙ ap (λ (s : State). verdict (content_checks s)) (sym (w.described e))
-        ∙ k
+module _ (c : Contents) {h : State} (w : (verdict (entry_checks c) ≡ passed) × (h ≡ restored c)) (x : Bool) (k : verdict (content_checks h) ≡ cond x passed (refused 8 0)) where
+  state_verdict : verdict (all_checks c) ≡ cond x passed (refused 8 0)
+  unfolding read_verdict
+  state_verdict =
+      passed_first (entry_checks c) (content_checks (restored c)) {v = Passed} (sym w.0) refl
+      ∙ ap (λ (s : State). verdict (content_checks s)) (sym w.1)
+      ∙ k
 
-    pub state_refused : x ≡ false → load_contents c ≡ not_loaded 8 0
-    unfolding load_contents unless_refused
-    state_refused f = ap (λ (v : Verdict). unless_refused v (restored c)) (state_verdict ∙ ap (λ (y : Bool). cond y passed (refused 8 0)) f)
+  pub state_refused : x ≡ false → load_contents c ≡ not_loaded 8 0
+  unfolding load_contents unless_refused
+  state_refused f = ap (λ (v : Verdict). unless_refused v (restored c)) (state_verdict ∙ ap (λ (y : Bool). cond y passed (refused 8 0)) f)
 
-    pub state_loaded : x ≡ true → load_contents c ≡ loaded h
-    unfolding load_contents unless_refused
-    state_loaded t =
-        ap (λ (v : Verdict). unless_refused v (restored c)) (state_verdict ∙ ap (λ (y : Bool). cond y passed (refused 8 0)) t)
-        ∙ ap loaded (sym (w.described e))
+  pub state_loaded : x ≡ true → load_contents c ≡ loaded h
+  unfolding load_contents unless_refused
+  state_loaded t =
+      ap (λ (v : Verdict). unless_refused v (restored c)) (state_verdict ∙ ap (λ (y : Bool). cond y passed (refused 8 0)) t)
+      ∙ ap loaded (sym w.1)
 
 -- ---- the trailer
 pub too_few_bytes : (l : List ℕ) → length l < least_image → load l ≡ not_loaded 6 0
@@ -194,8 +180,9 @@ module _ (l : List ℕ) {far : ℕ} {n : Counts} (long : least_image ≤ length 
     contents_decide h = trailer_decides ∙ rw (eq-eqb far (distance n) e, le-leb far (length l) h)
 
 -- ---- what reading an image gives
-pub read_refused : (x : Loaded) (n : ℕ) → x ≡ not_loaded n 0 → {r : Verdict × State} → r ≡ image_verdict (not_loaded n 0) → r ≡ image_verdict x
-read_refused x n e q = q ∙ ap image_verdict (sym e)
+pub read_refused : (x : Loaded) (n : ℕ) → x ≡ not_loaded n 0 → ◌≡◌ {A = Verdict × State} (refused n 0, fresh) (image_verdict x)
+unfolding image_verdict
+read_refused x n e = ap image_verdict (sym e)
 
 pub read_passed : (x : Loaded) (s : State) → x ≡ loaded s → ◌≡◌ {A = Verdict × State} (passed, s) (image_verdict x)
 unfolding image_verdict

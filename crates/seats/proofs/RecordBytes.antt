@@ -55,7 +55,7 @@ record_fields k f x y z =
     λ i. record { a = f.a; b = f.b; x = p i; y = q i; z = r i }
 
 -- A record of kind 2: the kind, the role, six zeros, the set, sixteen zeros.
-pub add_bytes : (role own : ℕ) → (2 ∷ []) ++ ((role ∷ []) ++ (bytes_of 6 0 ++ (bytes_of 8 own ++ bytes_of 16 0))) ≡ record_of 2 (fields_of role 0 own 0 0)
+pub add_bytes : (role own : ℕ) → (2 ∷ []) ++ ((role ∷ []) ++ (bytes_of 6 0 ++ (bytes_of 8 own ++ (bytes_of 8 0 ++ bytes_of 8 0)))) ≡ record_of 2 (fields_of role 0 own 0 0)
 unfolding record_of bytes_of
 add_bytes role own = refl
 

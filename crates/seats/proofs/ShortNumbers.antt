@@ -1,49 +1,65 @@
--- Little-endian numbers of one, two and four bytes, and those read four bytes at a time.
+-- Numbers of at most eight bytes, by the bytes of a word: those that are written are the first of the word's, and those that are read make the word with zeros behind them.
 -- Assumes nothing.
-use mathlib.Core.List.{List}
-use mathlib.Core.Path.{◌≡◌}
-use Prim.Native.Nat.{ℕ, suc, ◌+◌, ◌*◌}
-use lib.ListN.{get_or}
-use native.Mathlib.Numerals.{add-one}
+use mathlib.Core.List.{List, [], ◌∷◌, ◌++◌}
+use mathlib.Core.Path.{◌≡◌, refl, sym, ap, ap₂, ◌∙◌}
+use Prim.Native.Nat.{ℕ, zero, suc, ◌+◌, ◌*◌, ◌/◌, ◌%◌, ◌^◌, ◌≤◌}
+use native.Mathlib.Nat.{pow-suc, div-one, div-div-eq-div-mul}
 use native.Mathlib.Omega.{arith}
-use Rattle.seats.specs.Bytes.{number_at}
-use Rattle.seats.specs.Working.{quad_of}
+use lib.ListN.{length, get_or, take, drop, replicate, length-drop}
+use Rattle.std.specs.Int.{w64, byte_at, bytes_low_first, to_le_bytes, from_le_bytes}
+use Rattle.seats.specs.Bytes.{bytes_of, number_at}
+use Rattle.seats.proofs.Numbers.{number_cons, number_from}
 
 pub one_byte : (i : ℕ) (l : List ℕ) → get_or l i 0 ≡ number_at 1 i l
 unfolding number_at
 one_byte i l = omega arith
 
-pub two_bytes : (i : ℕ) (l : List ℕ) → get_or l i 0 + 256 * get_or l (i + 1) 0 ≡ number_at 2 i l
-unfolding number_at
-two_bytes i l = rw add-one (omega arith)
+-- ---- written
+byte : (k x : ℕ) → byte_at k x ≡ x / 256 ^ k % 256
+byte zero x = ap (λ (y : ℕ). y % 256) (sym (div-one x))
+byte (suc k) x = refl
 
--- A number of four bytes and more is that of the four, and behind it that of the others.
-quad_more : (n i : ℕ) (l : List ℕ) → number_at (suc (suc (suc (suc n)))) i l ≡ quad_of l i + 4294967296 * number_at n (i + 4) l
-unfolding number_at
-quad_more n i l =
-    let a : i + 1 ≡ suc i = omega arith in
-    let b : i + 2 ≡ suc (suc i) = omega arith in
-    let d : i + 3 ≡ suc (suc (suc i)) = omega arith in
-    let e : i + 4 ≡ suc (suc (suc (suc i))) = omega arith in
-    rw (a, b, d, e) (omega arith)
+bytes_from : (n m k x : ℕ) → n ≤ m → take n (bytes_low_first k m x) ≡ bytes_of n (x / 256 ^ k)
+unfolding bytes_of
+bytes_from zero m k x h = refl
+bytes_from (suc n) zero k x h = absurd (omega arith)
+bytes_from (suc n) (suc m) k x h =
+    let e : x / 256 ^ suc k ≡ x / 256 ^ k / 256 = ap (λ (p : ℕ). x / p) (pow-suc 256 k) ∙ sym (div-div-eq-div-mul x (256 ^ k) 256) in
+    ap₂ (λ (y : ℕ) (l : List ℕ). y ∷ l) (byte k x) (bytes_from n m (suc k) x (omega arith) ∙ ap (bytes_of n) e)
 
-pub four_bytes : (i : ℕ) (l : List ℕ) → quad_of l i ≡ number_at 4 i l
-unfolding number_at
-four_bytes i l =
-    let a = quad_more 0 i l in
-    omega arith
+-- The first bytes of a word are those of its number.
+pub bytes_taken : (n x : ℕ) → n ≤ 8 → take n (to_le_bytes w64 x) ≡ bytes_of n x
+bytes_taken n x h = bytes_from n 8 0 x h ∙ ap (bytes_of n) (div-one x)
 
--- Eight bytes are four and four.
-pub eight_bytes : (i : ℕ) (l : List ℕ) → quad_of l i + 4294967296 * quad_of l (i + 4) ≡ number_at 8 i l
+-- ---- read
+zeros : (n i : ℕ) (l : List ℕ) → ((j : ℕ) → get_or l j 0 ≡ 0) → number_at n i l ≡ 0
 unfolding number_at
-eight_bytes i l =
-    let a = quad_more 4 i l in
-    let b = quad_more 0 (i + 4) l in
-    omega arith
+zeros zero i l z = refl
+zeros (suc n) i l z = let a = z i in let b = zeros n (suc i) l z in omega arith
 
--- Five bytes are four and one.
-pub five_bytes : (i : ℕ) (l : List ℕ) → quad_of l i + 4294967296 * get_or l (i + 4) 0 ≡ number_at 5 i l
+front : (n m : ℕ) (d z : List ℕ) → n ≤ m → n ≤ length d → ((j : ℕ) → get_or z j 0 ≡ 0) → number_at m 0 (take n d ++ z) ≡ number_at n 0 d
 unfolding number_at
-five_bytes i l =
-    let a = quad_more 1 i l in
-    omega arith
+front zero m d z h k e = zeros m 0 z e
+front (suc n) zero d z h k e = absurd (omega arith)
+front (suc n) (suc m) [] z h k e = absurd (omega arith)
+front (suc n) (suc m) (x ∷ d) z h k e =
+    number_cons m x (take n d ++ z) ∙ ap (λ (y : ℕ). x + 256 * y) (front n m d z (omega arith) (omega arith) e) ∙ sym (number_cons n x d)
+
+-- Eight bytes make a word.
+word : (l : List ℕ) → from_le_bytes w64 l ≡ number_at 8 0 l
+unfolding number_at
+word l = omega arith
+
+none : (n j k : ℕ) → ◌≡◌ {A = ℕ} (get_or (drop n (replicate k 0)) j 0) 0
+none zero j zero = refl
+none zero zero (suc k) = refl
+none zero (suc j) (suc k) = none zero j k
+none (suc n) j zero = refl
+none (suc n) j (suc k) = none n j k
+
+-- The n bytes at a place, with zeros for the others, make the word of their number.
+pub number_padded : (n i : ℕ) (l : List ℕ) → n ≤ 8 → i + n ≤ length l → from_le_bytes w64 (take n (drop i l) ++ drop n (replicate 8 0)) ≡ number_at n i l
+number_padded n i l h k =
+    word (take n (drop i l) ++ drop n (replicate 8 0))
+    ∙ front n 8 (drop i l) (drop n (replicate 8 0)) h (omega (arith, length-drop i l)) (λ j. none n j 8)
+    ∙ sym (number_from n i l)

@@ -1,16 +1,17 @@
 -- Numbers written in a list piece by piece: one piece behind another, what is left to write, and what fills a buffer's front.
 -- Assumes nothing.
 use mathlib.Core.Bool.{Bool, true, false, cond}
-use mathlib.Core.List.{List, [], ◌∷◌, ◌++◌, append-nil}
+use mathlib.Core.List.{List, [], ◌∷◌, ◌++◌, append_assoc, append-nil}
 use mathlib.Core.Path.{◌≡◌, refl, sym, ap, ap₂, ◌∙◌}
-use Prim.Native.Nat.{ℕ, suc, ◌+◌, ◌-◌, ◌/◌, ◌%◌, ◌<◌, ◌≤◌}
+use Prim.Native.Nat.{ℕ, suc, ◌+◌, ◌<◌, ◌≤◌}
 use native.Mathlib.Nat.{add-zero, zero-add}
 use native.Mathlib.Omega.{arith}
 use lib.Dec.{leb}
 use lib.ListN.{length, set, take, drop, length-append}
-use lib.Seq.{sets, length-sets, sets-eq, take_at}
+use lib.Seq.{sets, length-sets, sets-eq, take_at, drop-drop}
+use borrow.Rule.Slice.PartMut.{put_mid}
 use borrow.Author.Tests.{le-leb, lt-leb}
-use Rattle.seats.specs.Bytes.{bytes_of, Filled, written, too_short, fill}
+use Rattle.seats.specs.Bytes.{Filled, written, too_short, fill}
 use Rattle.seats.specs.Written.{Written}
 
 sets_append : (l : List ℕ) (i : ℕ) (v w : List ℕ) → sets l i (v ++ w) ≡ sets (sets l i v) (i + length v) w
@@ -71,27 +72,14 @@ unwritten_none {i = i} u = record { list = u.same; place = sym (add-zero i) ∙ 
 pub unwritten_last : {old whole list after : List ℕ} {start i next : ℕ} (piece : List ℕ) → Unwritten old start whole list i piece → Written list i piece after next → Written old start whole after next
 unwritten_last piece u p = unwritten_none (unwritten_next piece [] (rw (append-nil piece) u) p)
 
--- ---- the bytes of a number
--- Byte by byte: of the n bytes of x at `start`, i are written and the bytes of y are left.
-pub number_start : (old : List ℕ) (start n x : ℕ) → Unwritten old start (bytes_of n x) old (start + 0) (bytes_of (n - 0) x)
-number_start old start n x =
-    let a : start + 0 ≡ start = omega arith in
-    let b : n - 0 ≡ n = omega arith in
-    rw (a, b) (unwritten_all old start (bytes_of n x))
-
-pub number_next : {old whole list : List ℕ} (start n i y : ℕ) → i < n → Unwritten old start whole list (start + i) (bytes_of (n - i) y) → Unwritten old start whole (set list (start + i) (y % 256)) (start + (i + 1)) (bytes_of (n - (i + 1)) (y / 256))
-unfolding bytes_of
-number_next {list = list} start n i y h u =
-    let a : n - i ≡ suc (n - (i + 1)) = omega arith in
-    let b : start + (i + 1) ≡ start + i + 1 = omega arith in
-    rw b (unwritten_next (y % 256 ∷ []) (bytes_of (n - (i + 1)) (y / 256)) (rw a at u) (one_written list (start + i) (y % 256)))
-
-pub number_end : {old whole list : List ℕ} (start n i y : ℕ) → n ≤ i → i ≤ n → Unwritten old start whole list (start + i) (bytes_of (n - i) y) → Written old start whole list (start + n)
-unfolding bytes_of
-number_end start n i y h k u =
-    let a : n - i ≡ 0 = omega arith in
-    let b : start + i ≡ start + n = omega arith in
-    unwritten_none (rw (a, b) at u)
+-- A piece is put over the part of the list that is as long.
+pub piece_put : (l w : List ℕ) (i k : ℕ) → k ≡ length w → i + k ≤ length l → Written l i w (put_mid i k l w) (i + k)
+piece_put l w i k e h = record {
+  list =
+      ap (λ (r : List ℕ). take i l ++ (w ++ r)) (drop-drop k i l ∙ ap (λ (n : ℕ). drop (i + n) l) e)
+      ∙ sym (append_assoc (take i l) w (drop (i + length w) l)) ∙ sym (sets-eq w l i (omega arith));
+  place = ap (λ (n : ℕ). i + n) e;
+}
 
 -- ---- what fills a buffer's front
 module _ (refusal : ℕ) (l w : List ℕ) where

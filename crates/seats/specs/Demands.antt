@@ -1,6 +1,6 @@
 -- The customer's three demands as statements over the promises that the contracts of the code cite: a field for each sentence, its meaning above it.
 -- Bytes, records and buffers are any, and so is the state at hand, but where a sentence speaks of the states that a keeper reaches.
-use Rattle.std.specs.Prelude.{◌≡◌, Bool, false, not, ◌↔◌, ◌⊎◌, ℕ, ◌-◌, ◌<◌, ◌≤◌, length, take, drop, T, eqb, ltb}
+use Rattle.std.specs.Prelude.{◌≡◌, Bool, false, not, ◌↔◌, ◌⊎◌, ℕ, ◌-◌, ◌<◌, ◌≤◌, length, take, drop, T, eqb, ltb, Result}
 use mathlib.Core.List.{List, [], ◌∷◌, ◌++◌, map, Memᴰ}
 use Rattle.sets.specs.Sets.{union, gather}
 use Rattle.lists.specs.Runs.{unrefused, Each, Chain}
@@ -9,6 +9,7 @@ use Rattle.graph.specs.Conflicts.{declared}
 use Rattle.graph.specs.Drawing.{Drawing, redraw}
 use Rattle.graph.specs.Closing.{counts, close}
 use Rattle.graph.specs.Editing.{Change, edit}
+use Rattle.graph.specs.declared.Refusal.{Refusal}
 use Rattle.graph.specs.Refusing.{Check, refuse, refuse_lowest, verdict, Passes, First, refusal_order, listed, no_earlier, no_privilege_number, pair_of_one, closed_checks}
 use Rattle.graph.specs.Refusing as refusing
 use Rattle.seats.specs.Bytes.{Bytes, written, too_short}
@@ -25,9 +26,6 @@ use Rattle.seats.specs.Promises.{StepPromise, LoadPromise, ReadPromise, MeasureP
 use Rattle.seats.specs.Reading.{read_state, read_answer, read_filled, read_image, read_measured}
 use Rattle.seats.specs.declared.State.{State}
 use Rattle.seats.specs.declared.Answer.{Answer}
-use Rattle.seats.specs.declared.Filled.{Filled}
-use Rattle.seats.specs.declared.ImageRead.{ImageRead}
-use Rattle.seats.specs.declared.Measured.{Measured}
 
 -- ---- what the demands are said with
 
@@ -41,7 +39,7 @@ pub record One {X Y : Type 0} (read : X → Y) (Promise : X → Type 0) : Type 0
 abbrev pub read_outcome : Answer × State → calls.Answer × seats.State
 read_outcome z = (read_answer z.0, read_state z.1)
 
-abbrev pub read_left : Filled × List ℕ → bytes.Filled × List ℕ
+abbrev pub read_left : Result ℕ Refusal × List ℕ → bytes.Filled × List ℕ
 read_left z = (read_filled z.0, z.1)
 
 -- The keeper's answer is a refusal.
@@ -145,7 +143,7 @@ pub record DemandOne : Type 0 where
   pub load_refused : (s t : State) (l : List ℕ) (a : Answer) (n p : ℕ) → LoadPromise s l a t → read_answer a ≡ refused n p
       → OfLoad n × (p ≡ 0) × (read_state t ≡ read_state s)
   -- A refused save has number 9 and place 0, and leaves every byte of the buffer.
-  pub save_refused : (s : seats.State) (buffer left : List ℕ) (f : Filled) (n p : ℕ) → SavePromise s buffer f left → read_filled f ≡ too_short n p
+  pub save_refused : (s : seats.State) (buffer left : List ℕ) (f : Result ℕ Refusal) (n p : ℕ) → SavePromise s buffer f left → read_filled f ≡ too_short n p
       → (n ≡ 9) × (p ≡ 0) × (left ≡ buffer)
 
 -- ---- demand 2: exactly what the paper defines
@@ -187,24 +185,24 @@ pub record DemandTwo : Type 0 where
   pub load_accepted_iff : (s t : State) (l : List ℕ) (a : Answer) → LoadPromise s l a t → (read_answer a ≡ accepted) ↔ Passes (load_checks l)
   pub load_accepted : (s t : State) (l : List ℕ) (a : Answer) → LoadPromise s l a t → read_answer a ≡ accepted → read_state t ≡ restored (contents_in l)
   -- Reading an image without a state at hand is refused exactly where loading is, and otherwise gives the state that loading gives.
-  pub read_refused_iff : (l : List ℕ) (r : ImageRead) (n p : ℕ) → ReadPromise l r → ((read_image r).0 ≡ refusing.refused n p) ↔ First (load_checks l) n p
-  pub read_accepted : (l : List ℕ) (r : ImageRead) → ReadPromise l r → Passes (load_checks l) → read_image r ≡ (refusing.passed, restored (contents_in l))
+  pub read_refused_iff : (l : List ℕ) (r : Result State Refusal) (n p : ℕ) → ReadPromise l r → ((read_image r).0 ≡ refusing.refused n p) ↔ First (load_checks l) n p
+  pub read_accepted : (l : List ℕ) (r : Result State Refusal) → ReadPromise l r → Passes (load_checks l) → read_image r ≡ (refusing.passed, restored (contents_in l))
   -- Measuring is refused with a number and a place exactly where loading is.
-  pub measure_refused_iff : (l : List ℕ) (m : Measured) (n p : ℕ) → MeasurePromise l m → (read_measured m ≡ unmeasured n p) ↔ First (load_checks l) n p
+  pub measure_refused_iff : (l : List ℕ) (m : Result ℕ Refusal) (n p : ℕ) → MeasurePromise l m → (read_measured m ≡ unmeasured n p) ↔ First (load_checks l) n p
   -- Otherwise the image is as long as its trailer says.
-  pub measure_accepted : (l : List ℕ) (m : Measured) → Bytes l → MeasurePromise l m → Passes (load_checks l) → read_measured m ≡ measured (far_at l (length l))
+  pub measure_accepted : (l : List ℕ) (m : Result ℕ Refusal) → Bytes l → MeasurePromise l m → Passes (load_checks l) → read_measured m ≡ measured (far_at l (length l))
   -- A save is refused exactly where the buffer has fewer bytes than the image.
-  pub save_refused_iff : (s : seats.State) (buffer left : List ℕ) (f : Filled) (n p : ℕ) → SavePromise s buffer f left
+  pub save_refused_iff : (s : seats.State) (buffer left : List ℕ) (f : Result ℕ Refusal) (n p : ℕ) → SavePromise s buffer f left
       → (read_filled f ≡ too_short n p) ↔ ((n ≡ 9) × (p ≡ 0) × (length buffer < length (image s)))
   -- A save into enough bytes answers with the image's length, fills the front with it and touches nothing behind.
-  pub save_accepted : (s : seats.State) (buffer left : List ℕ) (f : Filled) → SavePromise s buffer f left → length (image s) ≤ length buffer
+  pub save_accepted : (s : seats.State) (buffer left : List ℕ) (f : Result ℕ Refusal) → SavePromise s buffer f left → length (image s) ≤ length buffer
       → (read_filled f ≡ written (length (image s))) × (take (length (image s)) left ≡ image s) × (drop (length (image s)) left ≡ drop (length (image s)) buffer)
   -- What a keeper reaches, saved into enough bytes and given to loading alone or behind any bytes, loads as that state, whatever is at hand.
-  pub saved_loads : (s h t : State) (buffer left before : List ℕ) (f : Filled) (n : ℕ) (a : Answer) → Reached s
+  pub saved_loads : (s h t : State) (buffer left before : List ℕ) (f : Result ℕ Refusal) (n : ℕ) (a : Answer) → Reached s
       → SavePromise (read_state s) buffer f left → read_filled f ≡ written n → LoadPromise h (before ++ take n left) a t
       → (read_answer a ≡ accepted) × (read_state t ≡ read_state s)
   -- Whatever bytes load, the state saved into enough bytes is the bytes of the image at their end.
-  pub loaded_saves : (h s : State) (l buffer left : List ℕ) (a : Answer) (f : Filled) (n : ℕ) → Bytes l → LoadPromise h l a s → read_answer a ≡ accepted
+  pub loaded_saves : (h s : State) (l buffer left : List ℕ) (a : Answer) (f : Result ℕ Refusal) (n : ℕ) → Bytes l → LoadPromise h l a s → read_answer a ≡ accepted
       → SavePromise (read_state s) buffer f left → read_filled f ≡ written n
       → (n ≡ far_at l (length l)) × (take n left ≡ drop (length l - n) l)
   -- What precedes the image is not read, refused or not, where the trailer's distance lies within the bytes.

@@ -1,5 +1,5 @@
 -- What the operations promise of one record, one load, one image read or measured and one save; and demand 3 on the code, the list theorem for every chain of the step's promises.
-use Rattle.std.specs.Prelude.{◌≡◌, List, map, ℕ}
+use Rattle.std.specs.Prelude.{◌≡◌, List, map, ℕ, Result}
 use Rattle.lists.specs.Runs.{Each, Chain}
 use Rattle.graph.specs.Drawing.{edge}
 use Rattle.seats.specs.Bytes.{Bytes}
@@ -14,9 +14,7 @@ use Rattle.seats.specs.ListTheorem.{ListTheorem}
 use Rattle.seats.specs.Reading.{read_state, read_answer, read_filled, read_image, read_measured}
 use Rattle.seats.specs.declared.State.{State}
 use Rattle.seats.specs.declared.Answer.{Answer}
-use Rattle.seats.specs.declared.Filled.{Filled}
-use Rattle.seats.specs.declared.ImageRead.{ImageRead}
-use Rattle.seats.specs.declared.Measured.{Measured}
+use Rattle.graph.specs.declared.Refusal.{Refusal}
 
 -- A state is fresh.
 abbrev pub FreshPromise : State → Type 0
@@ -31,15 +29,15 @@ abbrev pub LoadPromise : State → List ℕ → Answer → State → Type 0
 LoadPromise s l a t = (read_answer a, read_state t) ≡ load_over (read_state s) l
 
 -- By the bytes l, reading the image that ends them, with no state at hand, gives r.
-abbrev pub ReadPromise : List ℕ → ImageRead → Type 0
+abbrev pub ReadPromise : List ℕ → Result State Refusal → Type 0
 ReadPromise l r = read_image r ≡ image_verdict (load l)
 
 -- By the bytes l, measuring the image that ends them gives m.
-abbrev pub MeasurePromise : List ℕ → Measured → Type 0
+abbrev pub MeasurePromise : List ℕ → Result ℕ Refusal → Type 0
 MeasurePromise l m = read_measured m ≡ measure l
 
 -- Saving the state s into the buffer gives the answer f and leaves the buffer as `after`.
-abbrev pub SavePromise : seats.State → List ℕ → Filled → List ℕ → Type 0
+abbrev pub SavePromise : seats.State → List ℕ → Result ℕ Refusal → List ℕ → Type 0
 SavePromise s buffer f after = (read_filled f, after) ≡ save s buffer
 
 -- A keeper starts with a fresh state, or with the state that an accepted load gives, whatever was at hand.

@@ -1,8 +1,10 @@
 -- How the code's values are read as the paper's: states, calls, answers, and what filling a buffer answers.
-use Rattle.std.specs.Prelude.{List, ℕ, set}
-use Rattle.graph.specs.Refusing.{Verdict}
-use Rattle.graph.specs.Reading.{read_set, graph_of, read_verdict, read_change}
-use Rattle.seats.specs.Seats.{State}
+use Rattle.std.specs.Prelude.{List, ℕ, set, Option, Some, None, Result, Ok, Err}
+use Rattle.graph.specs.Refusing.{Verdict, passed}
+use Rattle.graph.specs.Refusing as refusing
+use Rattle.graph.specs.Reading.{read_set, graph_of, read_change}
+use Rattle.graph.specs.declared.Refusal.{Refusal}
+use Rattle.seats.specs.Seats.{State, fresh}
 use Rattle.seats.specs.Calls.{Call, change, declare, lift, assign, unassign, ask, Answer, accepted, answered, refused, with_conflicts, with_seats}
 use Rattle.seats.specs.Records.{Decoded, malformed, well_formed}
 use Rattle.seats.specs.Bytes.{Filled, written, too_short}
@@ -13,22 +15,16 @@ use Rattle.seats.specs.declared.Request as request-enum
 use Rattle.seats.specs.declared.Request.TheVariants as requests
 use Rattle.seats.specs.declared.Call as call-enum
 use Rattle.seats.specs.declared.Call.TheVariants as calls
-use Rattle.seats.specs.declared.Decoded as decoded-enum
-use Rattle.seats.specs.declared.Decoded.TheVariants as decodings
+use Rattle.seats.specs.declared.Step.{Step}
+use Rattle.seats.specs.declared.FeedError as error-enum
+use Rattle.seats.specs.declared.FeedError.TheVariants as errors
 use Rattle.seats.specs.declared.Answer as answer-enum
 use Rattle.seats.specs.declared.Answer.TheVariants as answers
 use Rattle.seats.specs.declared.Stored as stored-enum
 use Rattle.seats.specs.declared.Stored.TheVariants as storings
 use Rattle.seats.specs.declared.Decision as decision-struct
 use Rattle.seats.specs.declared.Changed as changed-struct
-use Rattle.seats.specs.declared.ImageRead as image-struct
-use Rattle.seats.specs.declared.Measured as measured-enum
-use Rattle.seats.specs.declared.Measured.TheVariants as measures
 use Rattle.seats.specs.declared.Counts as counts-struct
-use Rattle.seats.specs.declared.PartAnswer as part-enum
-use Rattle.seats.specs.declared.PartAnswer.TheVariants as part-answers
-use Rattle.seats.specs.declared.Filled as filled-enum
-use Rattle.seats.specs.declared.Filled.TheVariants as fillings
 
 -- The state of these roles, sets, conflicts and seats.
 abbrev pub state_of : ℕ → List ℕ → List ℕ → List ℕ → State
@@ -52,9 +48,9 @@ read_call (calls.Change c) = change (read_change c)
 read_call (calls.Request r) = read_request r
 
 -- What a record decodes to.
-unfoldable pub read_decoded : decoded-enum.Decoded → Decoded
-read_decoded (decodings.WellFormed s) = well_formed (read_call s.call)
-read_decoded decodings.Malformed = malformed
+unfoldable pub read_decoded : Option Step → Decoded
+read_decoded (Some s) = well_formed (read_call s.call)
+read_decoded None = malformed
 
 -- An answer's number and values.
 unfoldable pub read_answer : answer-enum.Answer → Answer
@@ -63,18 +59,19 @@ read_answer (answers.Answered b) = answered b
 read_answer (answers.Refused r) = refused r.number r.place
 
 -- The length written, or a refusal's number and place.
-unfoldable pub read_filled : filled-enum.Filled → Filled
-read_filled (fillings.Written n) = written n
-read_filled (fillings.TooShort r) = too_short r.number r.place
+unfoldable pub read_filled : Result ℕ Refusal → Filled
+read_filled (Ok n) = written n
+read_filled (Err r) = too_short r.number r.place
 
--- Whether an image is refused, and its state.
-abbrev pub read_image : image-struct.ImageRead → Verdict × State
-read_image r = (read_verdict r.verdict, read_state r.state)
+-- Whether an image is refused, and its state; a refused one has a fresh state.
+unfoldable pub read_image : Result state-struct.State Refusal → Verdict × State
+read_image (Ok s) = (passed, read_state s)
+read_image (Err r) = (refusing.refused r.number r.place, fresh)
 
 -- An image's length, or a refusal's number and place.
-unfoldable pub read_measured : measured-enum.Measured → Measured
-read_measured (measures.Length n) = measured n
-read_measured (measures.Refused r) = unmeasured r.number r.place
+unfoldable pub read_measured : Result ℕ Refusal → Measured
+read_measured (Ok n) = measured n
+read_measured (Err r) = unmeasured r.number r.place
 
 -- How many roles, seats and conflicts an image has.
 abbrev pub read_counts : counts-struct.Counts → Counts
@@ -95,7 +92,7 @@ abbrev pub read_changed : changed-struct.Changed → List ℕ → List ℕ → A
 read_changed r conflicts seats = (read_answer r.answer, state_of r.roles r.sets conflicts seats)
 
 -- What feeding a part of a tape answers: as filling a buffer does, or that the records so far are not counted.
-unfoldable pub read_part : part-enum.PartAnswer → PartAnswer
-read_part (part-answers.Written n) = fills (written n)
-read_part (part-answers.TooShort r) = fills (too_short r.number r.place)
-read_part part-answers.Uncounted = uncounted
+unfoldable pub read_part : Result ℕ error-enum.FeedError → PartAnswer
+read_part (Ok n) = fills (written n)
+read_part (Err (errors.TooShort r)) = fills (too_short r.number r.place)
+read_part (Err errors.Uncounted) = uncounted

@@ -1,5 +1,5 @@
 -- What the contracts of private functions speak of: the fields of a record by themselves, what refuses the removal of a role and any change after closing, the end of a line, the lines with one more, and a part of a tape run.
-use Rattle.std.specs.Prelude.{cond, List, [], ◌∷◌, ◌++◌, ◌≡◌, ℕ, ◌+◌, ◌-◌, ◌*◌, ◌/◌, ◌≤◌, leb, get_or, length}
+use Rattle.std.specs.Prelude.{cond, List, [], ◌∷◌, ◌++◌, ◌≡◌, ℕ, ◌+◌, ◌-◌, ◌*◌, ◌/◌, ◌≤◌, leb, length}
 use Rattle.std.proofs.lemmas.List.Edits.{sets}
 use Rattle.graph.specs.Editing.{Change, add_by_place, add_by_privileges, remove_role, grant, withdraw, add_edge, remove_edge}
 use Rattle.graph.specs.Refusing.{Check, refuse_lowest, input_checks, state_checks, still_below, closed_checks}
@@ -8,11 +8,6 @@ use Rattle.seats.specs.Calls.{Answer, seat_checks}
 use Rattle.seats.specs.Records.{record_length, Fields}
 use Rattle.seats.specs.Tape.{records, digits, space, line_feed, line, fed}
 use Rattle.seats.specs.Written.{Written}
-use Rattle.seats.specs.declared.text.Lines.{Lines}
-
--- The little-endian number of the four bytes at place i, written out.
-abbrev pub quad_of : List ℕ → ℕ → ℕ
-quad_of l i = get_or l i 0 + 256 * get_or l (i + 1) 0 + 65536 * get_or l (i + 2) 0 + 16777216 * get_or l (i + 3) 0
 
 -- How many records so many bytes make, a partial last one among them.
 abbrev pub record_count : ℕ → ℕ
@@ -48,16 +43,15 @@ longest_line = 29
 abbrev pub line_length : ℕ → ℕ → ℕ → ℕ
 line_length i x y = length (digits i) + length (digits x) + length (digits y) + 3
 
--- The lines r are the lines b with that of the next record, whose answer is a: it is written behind them where the buffer has room for it.
-pub record Lined (buffer : List ℕ) (b : Lines) (a : Answer) (after : List ℕ) (r : Lines) : Type 0 where
-  pub counted : r.index ≡ b.index + 1
-  pub longer : r.length ≡ b.length + length (line r.index a)
-  pub bounded : r.length ≤ b.length + longest_line
-  pub put : after ≡ cond (leb r.length (length buffer)) (sets buffer b.length (line r.index a)) buffer
+-- The line of the record i, whose answer is a, has n bytes, and is put at the buffer's front where the buffer has room for it.
+pub record LinePut (buffer : List ℕ) (i : ℕ) (a : Answer) (after : List ℕ) (n : ℕ) : Type 0 where
+  pub long : n ≡ length (line i a)
+  pub bounded : n ≤ longest_line
+  pub put : after ≡ cond (leb n (length buffer)) (sets buffer 0 (line i a)) buffer
 
--- What running a part of a tape by a step, after count records and from the state s, gives: the state t and the records so far that the part comes to, how long its lines b are, and the lines at the buffer's front where it has room for them all.
-pub record PartRun {S : Type 0} (step : S → List ℕ → Answer × S) (s : S) (count : ℕ) (part buffer : List ℕ) (b : Lines) (t : S) (after : List ℕ) : Type 0 where
-  pub comes_to : (b.index, t) ≡ (fed step s count part).1
-  pub long : b.length ≡ length (fed step s count part).0
-  pub bounded : b.length ≤ longest_line * length (records part)
-  pub put : b.length ≤ length buffer → Written buffer 0 (fed step s count part).0 after b.length
+-- What running a part of a tape by a step, after count records and from the state s, gives: the state t and the records so far that the part comes to, how many bytes n its lines have, and the lines at the buffer's front where it has room for them all.
+pub record PartRun {S : Type 0} (step : S → List ℕ → Answer × S) (s : S) (count : ℕ) (part buffer : List ℕ) (index n : ℕ) (t : S) (after : List ℕ) : Type 0 where
+  pub comes_to : (index, t) ≡ (fed step s count part).1
+  pub long : n ≡ length (fed step s count part).0
+  pub bounded : n ≤ longest_line * length (records part)
+  pub put : n ≤ length buffer → Written buffer 0 (fed step s count part).0 after n

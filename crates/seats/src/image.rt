@@ -1,11 +1,13 @@
 // What saving and loading share: an image's parts, widths, distance and counts.
-ghost use Rattle.std.specs.Prelude.{◌≡◌, ◌≤◌, ◌<◌, length};
+ghost use Rattle.std.specs.Prelude.{◌≡◌, true, [], ◌∷◌, ℕ, ◌^◌, ◌≤◌, ◌<◌, length};
 ghost use Rattle.seats.specs.Images.{trailer_length, distance, counts_at};
 ghost use Rattle.seats.specs.Reading.{read_counts};
-ghost use Rattle.seats.specs.ImageWork.{Small, part_width};
+ghost use Rattle.seats.specs.ImageWork.{Small, Part, Roles, Conflicts, Seats, value_bytes, entry_of, entry_place, entry_passes, table_in, store_entries, value_of};
 
 use crate::Counts;
-use crate::endian::{half, wide};
+use crate::endian::number;
+use graph::table::{entry, roles_at, store, store_roles};
+use graph::{Privilege, PrivilegeSet, privileges};
 
 // How many bytes a set of privileges takes, a set of roles, and a privilege.
 pub(crate) const SET: usize = 8;
@@ -26,22 +28,117 @@ pub(crate) const TRAILER: usize = 8;
 
 pub(crate) const LEAST: usize = SET + TRAILER;
 
-// The parts of an image that are entries, in their order.
-#[derive(Clone, Copy)]
-pub(crate) enum Part {
-    Roles,
-    Conflicts,
-    Seats,
+// A part of an image that is entries, each of a key and a value: how they are told, and what is made of them in a table.
+pub(crate) trait Part {
+    ghost part: { Part };
+
+    // How many bytes the value of an entry takes.
+    fn value_bytes() -> usize
+        ensures { (result ≡ value_bytes part) × (result ≤ 8) };
+
+    // The place of an entry in the order of the part.
+    fn place(key: u8, value: u64) -> usize
+        requires { value < 256 ^ value_bytes part }
+        ensures { (result ≡ entry_place part (entry_of key value)) × (result < 65536) };
+
+    // Whether an entry passes, where these roles are present.
+    fn passes(key: u8, value: u64, present: u64) -> bool
+        ensures { result ≡ entry_passes part present (entry_of key value) };
+
+    // Stores an entry that passes.
+    fn put(table: &mut [u64], key: u8, value: u64)
+        requires { value < 256 ^ value_bytes part }
+        ensures { (present : ℕ) → entry_passes part present (entry_of key value) ≡ true → table_in part table.new ≡ store_entries part (entry_of key value ∷ []) (table_in part table.old) };
+
+    // The value of the entry that a table has for a number.
+    fn value_at(table: &[u64], n: usize) -> u64
+        ensures { result ≡ value_of part table.now n };
 }
 
-// How many bytes an entry of a part takes.
-pub(crate) fn width(part: Part) -> usize
-    ensures { result ≡ part_width part }
-{
-    match part {
-        Part::Roles => ROLE_ENTRY,
-        Part::Conflicts => CONFLICT_ENTRY,
-        Part::Seats => SEAT_ENTRY,
+// The lowest number of an ordinary role.
+const LEAST_ORDINARY: u8 = 2;
+
+// The roles, each with its set of privileges.
+pub(crate) struct RoleEntries;
+
+impl Part for RoleEntries {
+    ghost part = { Roles };
+
+    fn value_bytes() -> usize {
+        SET
+    }
+
+    fn place(key: u8, _value: u64) -> usize {
+        usize::from(key)
+    }
+
+    fn passes(key: u8, _value: u64, _present: u64) -> bool {
+        LEAST_ORDINARY <= key && key < 64
+    }
+
+    fn put(table: &mut [u64], key: u8, value: u64) {
+        store(table, usize::from(key), PrivilegeSet { word: value });
+    }
+
+    fn value_at(table: &[u64], n: usize) -> u64 {
+        entry(table, n).word
+    }
+}
+
+// The conflicts, each of a lower privilege with a higher one.
+pub(crate) struct ConflictEntries;
+
+impl Part for ConflictEntries {
+    ghost part = { Conflicts };
+
+    fn value_bytes() -> usize {
+        PRIVILEGE
+    }
+
+    fn place(key: u8, value: u64) -> usize {
+        256 * usize::from(key) + value as usize
+    }
+
+    fn passes(key: u8, value: u64, _present: u64) -> bool {
+        u64::from(key) < value && value < 64
+    }
+
+    fn put(table: &mut [u64], key: u8, value: u64) {
+        let lower = usize::from(key);
+        let row = entry(table, lower);
+        let higher = privileges::single(Privilege(value as u8));
+        store(table, lower, privileges::union(row, higher));
+    }
+
+    fn value_at(_table: &[u64], n: usize) -> u64 {
+        n as u64
+    }
+}
+
+// The seats, each with the set of its roles.
+pub(crate) struct SeatEntries;
+
+impl Part for SeatEntries {
+    ghost part = { Seats };
+
+    fn value_bytes() -> usize {
+        ROLE_SET
+    }
+
+    fn place(key: u8, _value: u64) -> usize {
+        usize::from(key)
+    }
+
+    fn passes(key: u8, value: u64, present: u64) -> bool {
+        key < 64 && value != 0 && sets::included(value, present)
+    }
+
+    fn put(table: &mut [u64], key: u8, value: u64) {
+        store_roles(table, usize::from(key), value);
+    }
+
+    fn value_at(table: &[u64], n: usize) -> u64 {
+        roles_at(table, n)
     }
 }
 
@@ -61,12 +158,9 @@ pub(crate) fn counts_at(bytes: &[u8], end: usize) -> Counts
     requires { (trailer_length ≤ end) × (end ≤ length bytes.now) }
     ensures { (read_counts result ≡ counts_at bytes.now end) × Small (read_counts result) }
 {
-    let roles = wide(bytes[end - 4]) as usize;
-    let seats = wide(bytes[end - 3]) as usize;
-    let conflicts = half(bytes, end - 2) as usize;
     Counts {
-        roles,
-        seats,
-        conflicts,
+        roles: usize::from(bytes[end - 4]),
+        seats: usize::from(bytes[end - 3]),
+        conflicts: number(bytes, end - 2, 2) as usize,
     }
 }

@@ -16,7 +16,7 @@ pub mod stepping;
 pub mod text;
 mod writing;
 
-use graph::{Change, ConflictEntry, Privilege, Refusal, Role, Verdict};
+use graph::{Change, ConflictEntry, Privilege, Refusal, Role};
 
 // A seat's number.
 #[derive(Clone, Copy)]
@@ -52,13 +52,6 @@ pub enum Call {
 #[derive(Clone, Copy)]
 pub struct Step {
     pub call: Call,
-}
-
-// What a record decodes to.
-#[derive(Clone, Copy)]
-pub enum Decoded {
-    WellFormed(Step),
-    Malformed,
 }
 
 // Accepted, an ask's yes or no, or a refusal with its number and place.
@@ -113,20 +106,6 @@ pub struct Stepped {
     pub state: State,
 }
 
-// What the image that ends any bytes comes to: whether it is refused, and its state; a refused one has a fresh state.
-#[derive(Clone, Copy)]
-pub struct ImageRead {
-    pub verdict: Verdict,
-    pub state: State,
-}
-
-// How long the image is that ends any bytes, or the refusal of loading it.
-#[derive(Clone, Copy)]
-pub enum Measured {
-    Length(usize),
-    Refused(Refusal),
-}
-
 // What loading answers, and the state after it.
 #[derive(Clone, Copy)]
 pub struct Loaded {
@@ -142,17 +121,9 @@ pub struct Counts {
     pub conflicts: usize,
 }
 
-// What filling a lent buffer answers: the length written, or a refusal.
+// What hinders feeding a part of a tape: a buffer that is too short, or that 64 bits do not hold the records so far.
 #[derive(Clone, Copy)]
-pub enum Filled {
-    Written(usize),
-    TooShort(Refusal),
-}
-
-// What feeding a part of a tape answers: the length of its lines, a refusal, or that 64 bits do not hold the records so far.
-#[derive(Clone, Copy)]
-pub enum PartAnswer {
-    Written(usize),
+pub enum FeedError {
     TooShort(Refusal),
     Uncounted,
 }

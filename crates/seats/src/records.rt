@@ -7,10 +7,10 @@ ghost use Rattle.seats.specs.Records.{record_length, malformed, well_formed, fie
 ghost use Rattle.seats.specs.Reading.{read_call, read_request, read_decoded, read_filled};
 ghost use Rattle.seats.specs.Working.{fields_of};
 
-use crate::endian::{quad, set_at, wide, word};
-use crate::writing::{put_byte, put_number, put_set, too_short};
-use crate::{Call, Decoded, Filled, Request, Seat, Step};
-use graph::{Change, Privilege, PrivilegeSet, Removal, Role, privileges};
+use crate::endian::{number, set_at};
+use crate::writing::{put_byte, put_number, put_set, unplaced};
+use crate::{Call, Request, Seat, Step};
+use graph::{Change, Privilege, PrivilegeSet, Refusal, Removal, Role, privileges};
 
 // How many bytes a record has.
 pub const RECORD: usize = 32;
@@ -20,45 +20,36 @@ fn spare(bytes: &[u8]) -> u64
     requires { 8 ≤ length bytes.now }
     ensures { result ≡ number_at 5 3 bytes.now }
 {
-    quad(bytes, 3) + 4294967296 * wide(bytes[7])
+    number(bytes, 3, 5)
 }
 
 // Whether a set of privileges and two sets of roles are empty.
 fn unused(x: PrivilegeSet, y: u64, z: u64) -> bool
     ensures { result ≡ all_empty (read_set x ∷ y ∷ z ∷ []) }
 {
-    if !privileges::is_empty(x) {
-        return false;
-    }
-    if y != 0 {
-        return false;
-    }
-    z == 0
+    privileges::is_empty(x) && y == 0 && z == 0
 }
 
 // The call, where b is no more than its kind allows and the sets that it does not name are empty.
-fn formed(b: u8, most: u8, rest: bool, call: Call) -> Decoded
+fn formed(b: u8, most: u8, rest: bool, call: Call) -> Option<Step>
     ensures { read_decoded result ≡ cond (leb b most && rest) (well_formed (read_call call)) malformed }
 {
-    if most < b {
-        return Decoded::Malformed;
-    }
-    if rest {
-        Decoded::WellFormed(Step { call })
+    if b <= most && rest {
+        Some(Step { call })
     } else {
-        Decoded::Malformed
+        None
     }
 }
 
 // The change of the graph that a record carries, likewise.
-fn decoded_change(b: u8, most: u8, rest: bool, edit: Change) -> Decoded
+fn decoded_change(b: u8, most: u8, rest: bool, edit: Change) -> Option<Step>
     ensures { read_decoded result ≡ cond (leb b most && rest) (well_formed (change (read_change edit))) malformed }
 {
     formed(b, most, rest, Call::Change(edit))
 }
 
 // The request that a record carries, likewise.
-fn decoded_request(b: u8, rest: bool, request: Request) -> Decoded
+fn decoded_request(b: u8, rest: bool, request: Request) -> Option<Step>
     ensures { read_decoded result ≡ cond (leb b 255 && rest) (well_formed (read_request request)) malformed }
 {
     formed(b, 255, rest, Call::Request(request))
@@ -76,7 +67,7 @@ fn removal(b: u8) -> Removal
 }
 
 // What a kind makes of the fields beside it.
-fn named(kind: u8, a: u8, b: u8, own: PrivilegeSet, y: u64, z: u64) -> Decoded
+fn named(kind: u8, a: u8, b: u8, own: PrivilegeSet, y: u64, z: u64) -> Option<Step>
     ensures { read_decoded result ≡ get_or (malformed ∷ kinds (fields_of a b (read_set own) y z)) kind malformed }
 {
     let none = unused(own, y, z);
@@ -98,27 +89,24 @@ fn named(kind: u8, a: u8, b: u8, own: PrivilegeSet, y: u64, z: u64) -> Decoded
         10 => decoded_request(b, none, Request::Assign(Seat(a), Role(b))),
         11 => decoded_request(b, none, Request::Unassign(Seat(a), Role(b))),
         12 => decoded_request(b, none, Request::Ask(Seat(a), Privilege(b))),
-        0 | 13..=255 => Decoded::Malformed,
+        0 | 13..=255 => None,
     }
 }
 
 // What any bytes decode to.
-pub fn decode(bytes: &[u8]) -> Decoded
+pub fn decode(bytes: &[u8]) -> Option<Step>
     ensures { read_decoded result ≡ decode bytes.now }
 {
-    if bytes.len() != RECORD {
-        return Decoded::Malformed;
-    }
-    if spare(bytes) != 0 {
-        return Decoded::Malformed;
+    if bytes.len() != RECORD || spare(bytes) != 0 {
+        return None;
     }
     named(
         bytes[0],
         bytes[1],
         bytes[2],
         set_at(bytes, 8),
-        word(bytes, 16),
-        word(bytes, 24),
+        number(bytes, 16, 8),
+        number(bytes, 24, 8),
     )
 }
 
@@ -126,25 +114,27 @@ pub fn decode(bytes: &[u8]) -> Decoded
 pub fn names_no_set(bytes: &[u8]) -> bool
     ensures { let l = bytes.now in result ≡ (eqb (length l) record_length && (eqb (number_at 5 3 l) 0 && no_sets 0 (fields l))) }
 {
-    if bytes.len() != RECORD {
+    if bytes.len() != RECORD || spare(bytes) != 0 {
         return false;
     }
-    if spare(bytes) != 0 {
-        return false;
-    }
-    unused(set_at(bytes, 8), word(bytes, 16), word(bytes, 24))
+    unused(set_at(bytes, 8), number(bytes, 16, 8), number(bytes, 24, 8))
 }
 
 // The record that adds a role by its privileges, kind 2, at the buffer's front; or refusal 9 where the buffer is shorter.
-pub fn write_add_by_privileges(buffer: &mut [u8], role: Role, own: PrivilegeSet) -> Filled
+pub fn write_add_by_privileges(
+    buffer: &mut [u8],
+    role: Role,
+    own: PrivilegeSet,
+) -> Result<usize, Refusal>
     ensures { (read_filled result, buffer.new) ≡ fill 9 (record_of 2 (fields_of role.0 0 (read_set own) 0 0)) buffer.old }
 {
     if buffer.len() < RECORD {
-        return too_short(9);
+        return Err(unplaced(9));
     }
     let role_at = put_byte(buffer, 0, 2);
     let b_at = put_byte(buffer, role_at, role.0);
     let set_at = put_number(buffer, b_at, 6, 0);
     let juniors_at = put_set(buffer, set_at, own);
-    Filled::Written(put_number(buffer, juniors_at, 16, 0))
+    let seniors_at = put_number(buffer, juniors_at, 8, 0);
+    Ok(put_number(buffer, seniors_at, 8, 0))
 }

@@ -11,38 +11,34 @@ ghost use Rattle.seats.specs.Written.{Written};
 ghost use Rattle.seats.specs.Images.{privilege_bytes, entry_bytes, trailer_length, trailer};
 ghost use Rattle.seats.specs.Promises.{SavePromise};
 ghost use Rattle.seats.specs.Reading.{state_of, read_counts};
-ghost use Rattle.seats.specs.ImageWork.{Small, value_bytes, part_width, value_of, part_entries, row_entries, pair_entries};
+ghost use Rattle.seats.specs.ImageWork.{Small, value_bytes, part_width, part_entries, row_entries, pair_entries};
 
-use crate::image::{PRIVILEGE, Part, ROLE_SET, distance};
-use crate::writing::{put_byte, put_number, put_set, too_short};
-use crate::{Counts, Filled};
+use crate::Counts;
+use crate::image::{ConflictEntries, Part, RoleEntries, SeatEntries, distance};
+use crate::writing::{put_byte, put_number, put_set, unplaced};
 use graph::drawing::ordinary_roles;
 use graph::table::{entry, roles_at};
-use graph::{Privilege, PrivilegeSet, privileges};
+use graph::{Privilege, PrivilegeSet, Refusal, privileges};
 
-// An entry of a part: its key, then what number n has in the part's table, or for a conflict the privilege n.
-fn put_entry(buffer: &mut [u8], at: usize, part: Part, key: u8, n: usize, table: &[u64]) -> usize
-    requires { at + part_width part ≤ length buffer.old }
-    ensures { Written buffer.old at (key ∷ bytes_of (value_bytes part) (value_of part table.now n)) buffer.new result }
+// An entry of a part: its key, then its value.
+fn put_entry<P: Part>(buffer: &mut [u8], at: usize, key: u8, value: u64) -> usize
+    requires { at + part_width P.part ≤ length buffer.old }
+    ensures { Written buffer.old at (key ∷ bytes_of (value_bytes P.part) value) buffer.new result }
 {
     let value_at = put_byte(buffer, at, key);
-    match part {
-        Part::Roles => put_set(buffer, value_at, entry(table, n)),
-        Part::Conflicts => put_number(buffer, value_at, PRIVILEGE, n as u64),
-        Part::Seats => put_number(buffer, value_at, ROLE_SET, roles_at(table, n)),
-    }
+    put_number(buffer, value_at, P::value_bytes(), value)
 }
 
 // The entries of the keys in a part's table, ascending: the roles or the seats.
-fn put_table(buffer: &mut [u8], at: usize, part: Part, keys: u64, table: &[u64]) -> usize
-    requires { at + length (entry_bytes (value_bytes part) (part_entries part keys table.now)) ≤ length buffer.old }
-    ensures { Written buffer.old at (entry_bytes (value_bytes part) (part_entries part keys table.now)) buffer.new result }
+fn put_table<P: Part>(buffer: &mut [u8], at: usize, keys: u64, table: &[u64]) -> usize
+    requires { at + length (entry_bytes (value_bytes P.part) (part_entries P.part keys table.now)) ≤ length buffer.old }
+    ensures { Written buffer.old at (entry_bytes (value_bytes P.part) (part_entries P.part keys table.now)) buffer.new result }
 {
     let mut place = at;
     let mut rest = keys;
     while rest != 0 {
         let k = sets::lowest_member(rest);
-        place = put_entry(buffer, place, part, k as u8, k as usize, table);
+        place = put_entry::<P>(buffer, place, k as u8, P::value_at(table, k as usize));
         rest = sets::without_lowest(rest);
     }
     place
@@ -56,8 +52,8 @@ fn put_row(buffer: &mut [u8], at: usize, lower: u8, row: PrivilegeSet) -> usize
     let mut place = at;
     let mut rest = privileges::union(row, privileges::empty());
     while !privileges::is_empty(rest) {
-        let higher = privileges::lowest_member(rest) as usize;
-        place = put_entry(buffer, place, Part::Conflicts, lower, higher, &[]);
+        let higher = privileges::lowest_member(rest) as u64;
+        place = put_entry::<ConflictEntries>(buffer, place, lower, higher);
         rest = privileges::without_lowest(rest);
     }
     place
@@ -136,7 +132,7 @@ pub fn save<'a>(
     conflicts: &'a [u64],
     seats: &'a [u64],
     buffer: &mut [u8],
-) -> Filled
+) -> Result<usize, Refusal>
     ensures { SavePromise (state_of roles sets.now conflicts.now seats.now) buffer.old result buffer.new }
 {
     let ordinary = ordinary_roles(roles);
@@ -151,12 +147,12 @@ pub fn save<'a>(
     };
     let length = distance(counts);
     if buffer.len() < length {
-        return too_short(9);
+        return Err(unplaced(9));
     }
     let roles_at = put_set(buffer, 0, entry(sets, 1));
-    let conflicts_at = put_table(buffer, roles_at, Part::Roles, ordinary, sets);
+    let conflicts_at = put_table::<RoleEntries>(buffer, roles_at, ordinary, sets);
     let seats_at = put_conflicts(buffer, conflicts_at, conflicts);
-    let trailer_at = put_table(buffer, seats_at, Part::Seats, taken, seats);
+    let trailer_at = put_table::<SeatEntries>(buffer, seats_at, taken, seats);
     put_trailer(buffer, trailer_at, counts);
-    Filled::Written(length)
+    Ok(length)
 }

@@ -7,7 +7,7 @@ ghost use Rattle.seats.specs.Promises.{StepPromise};
 ghost use Rattle.seats.specs.Reading.{state_of, read_answer, read_request};
 
 use crate::answers::refusal;
-use crate::{Answer, Call, Decoded, Request, State, Stepped, Stored, Taken, deciding, records};
+use crate::{Answer, Call, Request, State, Stepped, Stored, Taken, deciding, records};
 use graph::Change;
 use graph::table::{store, store_roles};
 
@@ -72,8 +72,7 @@ pub fn take(
 ) -> Taken
     ensures { (read_answer result.answer, state_of result.roles sets.new conflicts.new seats.new) ≡ step (state_of roles sets.old conflicts.old seats.old) bytes.now }
 {
-    let decoded = records::decode(bytes);
-    let Decoded::WellFormed(step) = decoded else {
+    let Some(step) = records::decode(bytes) else {
         return Taken {
             answer: refusal(1, 0),
             roles,

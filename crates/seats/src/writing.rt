@@ -1,21 +1,19 @@
 // What is written into a lent buffer: a byte, a number's bytes and its base-ten digits, a set's bytes, each at a place; what comes next goes to the place behind.
 ghost use Rattle.std.specs.Prelude.{◌≡◌, [], ◌∷◌, ◌+◌, ◌≤◌, ◌<◌, length};
 ghost use Rattle.graph.specs.Reading.{read_set};
-ghost use Rattle.seats.specs.Bytes.{bytes_of, too_short};
+ghost use Rattle.seats.specs.Bytes.{bytes_of};
 ghost use Rattle.seats.specs.Written.{Written};
 ghost use Rattle.seats.specs.Tape.{digits};
 ghost use Rattle.seats.specs.Images.{set_bytes};
-ghost use Rattle.seats.specs.Reading.{read_filled};
 
-use crate::Filled;
 use crate::image::SET;
 use graph::{PrivilegeSet, Refusal};
 
-// What filling answers where the buffer is too short: a refusal at place 0.
-pub(crate) fn too_short(number: u8) -> Filled
-    ensures { read_filled result ≡ too_short number 0 }
+// A refusal at place 0, as those of buffers and images are.
+pub(crate) fn unplaced(number: u8) -> Refusal
+    ensures { (result.number ≡ number) × (result.place ≡ 0) }
 {
-    Filled::TooShort(Refusal { number, place: 0 })
+    Refusal { number, place: 0 }
 }
 
 // A byte at a place; gives the place behind it.
@@ -29,16 +27,10 @@ pub(crate) fn put_byte(buffer: &mut [u8], at: usize, byte: u8) -> usize
 
 // The n bytes of x, little-endian, at a place; gives the place behind them.
 pub(crate) fn put_number(buffer: &mut [u8], at: usize, n: usize, x: u64) -> usize
-    requires { at + n ≤ length buffer.old }
+    requires { (n ≤ 8) × (at + n ≤ length buffer.old) }
     ensures { Written buffer.old at (bytes_of n x) buffer.new result }
 {
-    let mut rest = x;
-    let mut i: usize = 0;
-    while i < n {
-        buffer[at + i] = (rest % 256) as u8;
-        rest = rest / 256;
-        i += 1;
-    }
+    buffer[at..at + n].copy_from_slice(&x.to_le_bytes()[..n]);
     at + n
 }
 

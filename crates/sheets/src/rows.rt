@@ -56,7 +56,7 @@ pub(crate) fn write_rows(
                 return to;
             }
             Line::Read(role, set, next) => {
-                write_add_by_privileges(&mut tape[to..], role, set);
+                let _ = write_add_by_privileges(&mut tape[to..], role, set);
                 to += RECORD;
                 place = next;
             }

@@ -1,7 +1,7 @@
 -- The customer's three demands on sittings, over the promises that the contracts of the code cite: a field for each sentence, its meaning above it.
 -- Bytes, records, tapes and buffers are any, and so is the sitting at hand, but where a sentence speaks of the sittings that a keeper reaches.
 -- What concerns images alone, reading, measuring and saving them, stands in the demands of `seats`.
-use Rattle.std.specs.Prelude.{◌≡◌, false, ◌↔◌, ℕ, suc, ◌+◌, ◌-◌, ◌^◌, ◌<◌, ◌≤◌, length, take, drop, T}
+use Rattle.std.specs.Prelude.{◌≡◌, false, ◌↔◌, ℕ, suc, ◌+◌, ◌-◌, ◌^◌, ◌<◌, ◌≤◌, length, take, drop, T, Result}
 use mathlib.Core.List.{List, [], ◌∷◌, ◌++◌, map, Memᴰ}
 use Rattle.lists.specs.Runs.{unrefused, Each, Chain}
 use Rattle.graph.specs.Graph.{role_count, effective}
@@ -18,7 +18,7 @@ use Rattle.seats.specs.Demands.{One, refuses, OfCall, OfLoad, contents_in, load_
 use Rattle.seats.specs.Demands as state-demands
 use Rattle.seats.specs.Reading.{read_answer, read_filled, read_part}
 use Rattle.seats.specs.declared.Answer.{Answer}
-use Rattle.seats.specs.declared.Filled.{Filled}
+use Rattle.graph.specs.declared.Refusal.{Refusal}
 use Rattle.sittings.specs.Sittings.{begun, excluded, is_active, may_use_active}
 use Rattle.sittings.specs.Sittings as sittings
 use Rattle.sittings.specs.Calls.{Call, call, checks, after, reply}
@@ -156,11 +156,11 @@ pub record DemandTwo : Type 0 where
       (read_part f.answer ≡ fills (written (length text))) × (left ≡ text ++ drop (length text) buffer)
       × (f.count ≡ count + length (records part)) × (read_sitting f.sitting ≡ end (read_sitting z) (records part))
   -- What a keeper reaches, its state saved into enough bytes and given to loading alone or behind any bytes, loads as that state, whatever is at hand, with no pair and nothing active.
-  pub saved_loads : (z h y : Sitting) (buffer left before : List ℕ) (f : Filled) (n : ℕ) (a : Answer) → Reached z
+  pub saved_loads : (z h y : Sitting) (buffer left before : List ℕ) (f : Result ℕ Refusal) (n : ℕ) (a : Answer) → Reached z
       → SavePromise (read_sitting z).state buffer f left → read_filled f ≡ written n → LoadPromise h (before ++ take n left) a y
       → (read_answer a ≡ accepted) × (read_sitting y ≡ begun (read_sitting z).state)
   -- Whatever bytes load, the state saved into enough bytes is the bytes of the image at their end.
-  pub loaded_saves : (h y : Sitting) (l buffer left : List ℕ) (a : Answer) (f : Filled) (n : ℕ) → Bytes l → LoadPromise h l a y → read_answer a ≡ accepted
+  pub loaded_saves : (h y : Sitting) (l buffer left : List ℕ) (a : Answer) (f : Result ℕ Refusal) (n : ℕ) → Bytes l → LoadPromise h l a y → read_answer a ≡ accepted
       → SavePromise (read_sitting y).state buffer f left → read_filled f ≡ written n
       → (n ≡ far_at l (length l)) × (take n left ≡ drop (length l - n) l)
   -- What precedes the image is not read, refused or not, where the trailer's distance lies within the bytes.

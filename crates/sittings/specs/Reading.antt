@@ -1,5 +1,5 @@
 -- How the code's values are read as the paper's: sittings, calls, and what a call and a part of a tape come to.
-use Rattle.std.specs.Prelude.{List, ℕ, set}
+use Rattle.std.specs.Prelude.{List, ℕ, set, Option, Some, None}
 use Rattle.graph.specs.Reading.{read_change}
 use Rattle.seats.specs.Seats.{State}
 use Rattle.seats.specs.Calls.{Answer, change}
@@ -13,8 +13,7 @@ use Rattle.sittings.specs.declared.Choice as choice-enum
 use Rattle.sittings.specs.declared.Choice.TheVariants as choices
 use Rattle.sittings.specs.declared.Call as call-enum
 use Rattle.sittings.specs.declared.Call.TheVariants as calls
-use Rattle.sittings.specs.declared.Decoded as decoded-enum
-use Rattle.sittings.specs.declared.Decoded.TheVariants as decodings
+use Rattle.sittings.specs.declared.Step.{Step}
 use Rattle.sittings.specs.declared.Stored as stored-enum
 use Rattle.sittings.specs.declared.Stored.TheVariants as storings
 use Rattle.sittings.specs.declared.Chosen as chosen-struct
@@ -41,9 +40,9 @@ read_call (calls.Request r) = call (read_request r)
 read_call (calls.Choice c) = read_choice c
 
 -- What a record decodes to.
-unfoldable pub read_decoded : decoded-enum.Decoded → Decoded
-read_decoded (decodings.WellFormed s) = well_formed (read_call s.call)
-read_decoded decodings.Malformed = malformed
+unfoldable pub read_decoded : Option Step → Decoded
+read_decoded (Some s) = well_formed (read_call s.call)
+read_decoded None = malformed
 
 -- The sitting with what a call of kinds 13 to 15 stores: nothing, the roles that a role excludes, or the active roles of a seat.
 unfoldable pub stored : Sitting → stored-enum.Stored → Sitting

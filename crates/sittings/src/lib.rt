@@ -15,7 +15,7 @@ pub mod stepping;
 pub mod tape;
 
 use graph::{Change, Role, Verdict};
-use seats::{Answer, PartAnswer, Request, Seat, SeatEntry};
+use seats::{Answer, FeedError, Request, Seat, SeatEntry};
 
 // What a keeper holds: the saved state; by role number the higher roles that it excludes; and by seat number the set of the seat's active roles.
 #[derive(Clone, Copy)]
@@ -48,13 +48,6 @@ pub enum Call {
 #[derive(Clone, Copy)]
 pub struct Step {
     pub call: Call,
-}
-
-// What a record decodes to.
-#[derive(Clone, Copy)]
-pub enum Decoded {
-    WellFormed(Step),
-    Malformed,
 }
 
 // The higher roles that a role excludes.
@@ -104,7 +97,7 @@ pub struct Loaded {
 // What feeding a part of a tape gives: its answer, the records so far, and the sitting after them.
 #[derive(Clone, Copy)]
 pub struct Fed {
-    pub answer: PartAnswer,
+    pub answer: Result<usize, FeedError>,
     pub count: u64,
     pub sitting: Sitting,
 }

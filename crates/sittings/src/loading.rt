@@ -6,7 +6,6 @@ ghost use Rattle.sittings.specs.Promises.{LoadPromise};
 ghost use Rattle.sittings.specs.Reading.{read_sitting};
 
 use crate::{Loaded, Sitting};
-use graph::Verdict;
 use seats::{Answer, State, loading};
 
 // A state as a sitting without pairs and active roles.
@@ -30,15 +29,12 @@ fn begun(state: State) -> Sitting
 pub fn load(sitting: Sitting, bytes: &[u8]) -> Loaded
     ensures { LoadPromise sitting bytes.now result.answer result.sitting }
 {
-    let image = loading::read_image(bytes);
-    let verdict = image.verdict;
-    let next = image.state;
-    match verdict {
-        Verdict::Passed => Loaded {
+    match loading::read_image(bytes) {
+        Ok(state) => Loaded {
             answer: Answer::Accepted,
-            sitting: begun(next),
+            sitting: begun(state),
         },
-        Verdict::Refused(refusal) => Loaded {
+        Err(refusal) => Loaded {
             answer: Answer::Refused(refusal),
             sitting,
         },

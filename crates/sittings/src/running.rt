@@ -8,30 +8,34 @@ ghost use Rattle.sittings.specs.Reading.{read_sitting};
 use crate::{Sitting, lent};
 use seats::reader::TapeReader;
 use seats::text;
-use seats::text::Lines;
 
-// What a part of a tape comes to: its lines, and the sitting after it.
+// What a part of a tape comes to: the records so far, how many bytes its lines have, and the sitting after it.
 #[derive(Clone, Copy)]
-pub struct Ran {
-    pub lines: Lines,
+pub(crate) struct Ran {
+    pub count: u64,
+    pub length: usize,
     pub sitting: Sitting,
 }
 
 // The records of a part of a tape, one after another, on one sitting; a line that has no room is not written.
 pub(crate) fn run(sitting: Sitting, count: u64, part: &[u8], buffer: &mut [u8]) -> Ran
     requires { count + length (records part.now) < 2 ^ 64 }
-    ensures { PartRun step (read_sitting sitting) count part.now buffer.old result.lines (read_sitting result.sitting) buffer.new }
+    ensures { PartRun step (read_sitting sitting) count part.now buffer.old result.count result.length (read_sitting result.sitting) buffer.new }
 {
     let mut sitting = sitting;
-    let mut lines = Lines {
-        index: count,
-        length: 0,
-    };
+    let mut index = count;
+    let mut length = 0;
     let mut reader = TapeReader::new(part);
     while !reader.ended() {
         let answer = lent::call(&mut sitting, reader.next());
         reader = reader.moved();
-        lines = text::next_line(buffer, lines, answer);
+        index += 1;
+        let start = length.min(buffer.len());
+        length += text::put_line(&mut buffer[start..], index, answer);
     }
-    Ran { lines, sitting }
+    Ran {
+        count: index,
+        length,
+        sitting,
+    }
 }

@@ -8,7 +8,7 @@ ghost use Rattle.sittings.specs.Records.{step};
 ghost use Rattle.sittings.specs.Promises.{StepPromise};
 ghost use Rattle.sittings.specs.Reading.{sitting_of, read_choice};
 
-use crate::{Call, Choice, Decoded, Sitting, Stepped, Stored, choosing, following, records};
+use crate::{Call, Choice, Sitting, Stepped, Stored, choosing, following, records};
 use graph::table::store_roles;
 use graph::{Change, Verdict};
 use seats::answers::refusal;
@@ -142,8 +142,7 @@ pub fn take(
 ) -> Taken
     ensures { (read_answer result.answer, sitting_of (state_of result.roles sets.new conflicts.new seats.new) pairs.new active.new) ≡ step (sitting_of (state_of roles sets.old conflicts.old seats.old) pairs.old active.old) bytes.now }
 {
-    let decoded = records::decode(bytes);
-    let Decoded::WellFormed(step) = decoded else {
+    let Some(step) = records::decode(bytes) else {
         return Taken {
             answer: refusal(1, 0),
             roles,

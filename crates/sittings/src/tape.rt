@@ -9,7 +9,7 @@ ghost use Rattle.sittings.specs.Reading.{read_sitting};
 use crate::running::run;
 use crate::{Fed, Sitting};
 use graph::Refusal;
-use seats::PartAnswer;
+use seats::FeedError;
 use seats::records::RECORD;
 use seats::text::LINE;
 
@@ -43,9 +43,7 @@ fn can_feed(sitting: Sitting, count: u64, part: &[u8], room: usize) -> bool
         return true;
     }
     let mut none = [0u8; 1];
-    let ran = run(sitting, count, part, &mut none);
-    let lines = ran.lines;
-    lines.length <= room
+    run(sitting, count, part, &mut none).length <= room
 }
 
 // A part of a tape, after so many records and from the sitting that they left.
@@ -54,27 +52,25 @@ pub fn feed(sitting: Sitting, count: u64, part: &[u8], buffer: &mut [u8]) -> Fed
 {
     if u64::MAX - count < record_count(part.len()) as u64 {
         return Fed {
-            answer: PartAnswer::Uncounted,
+            answer: Err(FeedError::Uncounted),
             count,
             sitting,
         };
     }
     if !can_feed(sitting, count, part, buffer.len()) {
         return Fed {
-            answer: PartAnswer::TooShort(Refusal {
+            answer: Err(FeedError::TooShort(Refusal {
                 number: 9,
                 place: 0,
-            }),
+            })),
             count,
             sitting,
         };
     }
     let ran = run(sitting, count, part, buffer);
-    let lines = ran.lines;
-    let sitting = ran.sitting;
     Fed {
-        answer: PartAnswer::Written(lines.length),
-        count: lines.index,
-        sitting,
+        answer: Ok(ran.length),
+        count: ran.count,
+        sitting: ran.sitting,
     }
 }

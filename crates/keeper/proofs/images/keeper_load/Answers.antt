@@ -1,12 +1,10 @@
 -- `keeper::images::keeper_load` meets its contract: an image that passes begins a sitting, and a refused one leaves the block.
 -- Assumes nothing.
-use mathlib.Core.Path.{refl, sym, ap, ◌∙◌}
+use mathlib.Core.Path.{refl, sym, ap}
 use borrow.Author.Tests.{lt-leb, le-leb}
-use Rattle.graph.specs.Reading.{read_verdict}
-use Rattle.graph.specs.declared.Verdict as verdict-enum
 use Rattle.seats.specs.Calls.{accepted, refused}
 use Rattle.seats.specs.Tape.{answer_number, answer_place}
-use Rattle.seats.specs.Reading.{read_state}
+use Rattle.seats.specs.Reading.{read_state, read_image}
 use Rattle.seats.proofs.LoadChecks.{loads_passed, loads_refused}
 use Rattle.sittings.specs.Sittings.{begun}
 use Rattle.sittings.specs.Images.{settle_load, load_over}
@@ -20,21 +18,19 @@ pub returns-then-block-lt-WORDS : goal.returns-then-block-lt-WORDS
 unfolding load_block of_sitting
 returns-then-block-lt-WORDS c = simp (lt-leb _ _ c.if-block-lt-WORDS.true)
 
-pub returns-in-Passed : goal.returns-in-Passed
-unfolding load_block of_sitting load_over settle_load code_of answer_number answer_place read_verdict
-returns-in-Passed c =
+pub returns-in-Ok : goal.returns-in-Ok
+unfolding load_block of_sitting load_over settle_load code_of answer_number answer_place read_image
+returns-in-Ok c =
     let W = c.args.block.now in
-    let r = c.read_image-image.result in
-    let e = loads_passed c.args.bytes.now (read_state r.state) (ap (λ (v : verdict-enum.Verdict). (read_verdict v, read_state r.state)) (sym c.in-Passed.is) ∙ c.read_image-image.ensures) in
+    let e = loads_passed c.args.bytes.now (read_state c.in-Ok.state) c.in-Ok.ensures in
     rw (le-leb _ _ c.if-block-lt-WORDS.false)
-    (gives W accepted (begun (read_state r.state)) refl c.begin.ensures (sym (ap (settle_load (sitting_in W)) e)))
+    (gives W accepted (begun (read_state c.in-Ok.state)) refl c.begin.ensures (sym (ap (settle_load (sitting_in W)) e)))
 
-pub returns-in-Refused : goal.returns-in-Refused
-unfolding load_block of_sitting load_over settle_load read_verdict
-returns-in-Refused c =
+pub returns-in-Err : goal.returns-in-Err
+unfolding load_block of_sitting load_over settle_load read_image
+returns-in-Err c =
     let W = c.args.block.now in
-    let r = c.read_image-image.result in
     let whole = c.if-block-lt-WORDS.false in
-    let e = loads_refused c.args.bytes.now _ _ (read_state r.state) (ap (λ (v : verdict-enum.Verdict). (read_verdict v, read_state r.state)) (sym c.in-Refused.is) ∙ c.read_image-image.ensures) in
+    let e = loads_refused c.args.bytes.now _ _ _ c.in-Err.ensures in
     rw (le-leb _ _ whole)
     (gives W (refused _ _) (sitting_in W) c.refusal_code.ensures.0 (sym (holds_own W whole)) (sym (ap (settle_load (sitting_in W)) e)))

@@ -8,9 +8,7 @@ use Rattle.seats.proofs.image.counts_at.Goals as goal
 pub returns : goal.returns
 unfolding counts_at
 returns c =
-    let s = c.wide-seats in
-    let r = c.wide-roles in
-    let a = r.ensures.0 ∙ one_byte _ _ in
-    let b = s.ensures.0 ∙ one_byte _ _ in
-    let d = c.half-conflicts.ensures.0 in
-    (λ i. record { roles = a i; seats = b i; conflicts = d i }, (r.ensures.1, s.ensures.1, c.half-conflicts.ensures.1))
+    let a = c.from.ensures ∙ one_byte _ _ in
+    let b = c.from-2.ensures ∙ one_byte _ _ in
+    let d = c.number.ensures.0 in
+    (λ i. record { roles = a i; seats = b i; conflicts = d i }, (rw c.from.ensures (c.type_inv.bytes _).fits, rw c.from-2.ensures (c.type_inv.bytes _).fits, c.number.ensures.1))

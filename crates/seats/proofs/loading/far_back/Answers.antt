@@ -1,10 +1,8 @@
 -- `seats::loading::far_back` meets its contract: the distance is a number of four bytes.
 -- Assumes nothing.
-use mathlib.Core.Path.{◌∙◌}
 use Rattle.seats.specs.Images.{far_at}
-use Rattle.seats.proofs.ShortNumbers.{four_bytes}
 use Rattle.seats.proofs.loading.far_back.Goals as goal
 
 pub returns : goal.returns
 unfolding far_at
-returns c = c.quad.ensures.0 ∙ four_bytes _ _
+returns c = c.number.ensures.0

@@ -1,65 +1,59 @@
 -- `seats::loading::read_entries` meets its contract: each turn tests the first entry left and stores it, and the others are left.
 -- Assumes nothing.
 use borrow.Author.Rules.{rules}
-use borrow.Author.Tests.{not-true, not-false}
-use mathlib.Core.Path.{◌≡◌}
+use borrow.Author.Tests.{lt-leb, le-leb}
+use Rattle.sets.specs.Sets.{union}
+use Rattle.sets.proofs.Laws.{known_single}
+use mathlib.Core.Path.{◌≡◌, refl, sym, ap, ◌∙◌}
 use mathlib.Core.List.{◌∷◌}
-use Prim.Native.Nat.{◌+◌, ◌-◌, ◌*◌, ◌≤◌}
-use lib.ListN.{length}
+use Prim.Native.Nat.{◌+◌, ◌-◌, ◌*◌}
+use native.Mathlib.Omega.{arith}
+use lib.ListN.{get_or}
 use Rattle.seats.specs.Images.{entries_at}
-use Rattle.seats.specs.ImageWork.{value_bytes, part_width, entry_at}
-use Rattle.seats.proofs.EntryReading.{first_entry, no_entries, entry_room, part_all, part_next, part_refused, part_done}
+use Rattle.seats.specs.ImageWork.{value_bytes, part_width, entry_of}
+use Rattle.seats.proofs.EntryReading.{entry_here, entries_end, part_all, part_next, part_refused, part_done, passing_key}
+use Rattle.seats.proofs.loading.read_entries.Given.{Over}
 use Rattle.seats.proofs.loading.read_entries.Goals as goal
-use Rattle.seats.proofs.loading.read_entries.Goals.{In-loop-left}
+use Rattle.seats.proofs.loading.read_entries.Goals.{After-place-place, then-place-low-via-then-place-low, then-place-low-via-else-place-low+then-not-passes}
 
-pub loop-left-init : goal.loop-left-init
-loop-left-init c = (c.requires, search rules, part_all _ _ _ _)
+pub loop-i-init : goal.loop-i-init
+loop-i-init g c =
+    let a : c.args.at + part_width g.P.Part.part * 0 ≡ c.args.at = omega arith in
+    let b : c.args.count - 0 ≡ c.args.count = omega arith in
+    (refl, rw (a, b) (part_all _ _ _ _))
 
--- Of the entries left the first and the others have room.
-room : (c : In-loop-left) → (
-    let s = c.args in
-    let w = part_width s.part in
-    let l = c.loop-left in
-    (l.place + w ≤ length s.bytes.now) × ((l.place + w) + w * (l.left - 1) ≤ length s.bytes.now))
-room c = entry_room _ _ _ c.loop-left-test.true c.loop-left.invariant.0
+-- The first of the entries left is that of the key and the value that are read.
+here : (g : Over) (c : After-place-place g) → (
+    let n = value_bytes g.P.Part.part in
+    let a = c.args in
+    let i = c.loop-i.i in
+    entries_at n (a.at + part_width g.P.Part.part * i) (a.count - i) a.bytes.now
+    ≡ entry_of (get_or a.bytes.now (a.at + (1 + c.value_bytes-value_bytes.result) * i) 0) c.number-value.result ∷ entries_at n (a.at + part_width g.P.Part.part * (i + 1)) (a.count - (i + 1)) a.bytes.now)
+here g c =
+    let a = c.args in
+    rw (c.number-value.ensures.0, c.value_bytes-value_bytes.ensures.0) (entry_here (value_bytes g.P.Part.part) a.at a.count c.loop-i.i a.bytes.now c.loop-i-test.true)
 
--- The first entry left stands at the place.
-first : (c : In-loop-left) → (
-    let s = c.args in
-    let n = value_bytes s.part in
-    let l = c.loop-left in
-    entries_at n l.place l.left s.bytes.now ≡ entry_at n l.place s.bytes.now ∷ entries_at n (l.place + (1 + n)) (l.left - 1) s.bytes.now)
-first c = first_entry _ _ _ _ c.loop-left-test.true
+pub returns-then-place-low : goal.returns-then-place-low
+returns-then-place-low g c =
+    let h = here g (goal.at.returns-then-place-low g c).After-place-place in
+    part_refused g.P.Part.part c.args.present _ _ (rw h at c.loop-i.invariant.1)
+    (rw (← c.place-place.ensures.0) (elim c.then-place-low.branch [
+      | then-place-low-via-then-place-low w ↦ rw (lt-leb _ _ w.if-place-low.true)
+      | then-place-low-via-else-place-low+then-not-passes w ↦ rw (le-leb _ _ w.if-place-low.false) (sym w.if-not-passes.ensures)
+    ]))
 
-pub read_entry-entry-requires : goal.read_entry-entry-requires
-read_entry-entry-requires c = (room (goal.at.read_entry-entry-requires c).In-loop-left).0
-
-pub returns-then-not-entry : goal.returns-then-not-entry
-returns-then-not-entry c =
-    part_refused _ _ _ _ (rw (first (goal.at.returns-then-not-entry c).In-loop-left) at c.loop-left.invariant.2) c.read_entry-entry.ensures (not-true _ c.if-not-entry.true)
-
-pub overflow_add-low : goal.overflow_add-low
-overflow_add-low c =
-    let h = c.read_entry-entry.ensures.small in search rules
-
-pub overflow_add-place : goal.overflow_add-place
-overflow_add-place c =
-    let h = (room (goal.at.overflow_add-place c).In-loop-left).0 in
-    let e = c.width-step.ensures in
-    search rules
-
-pub loop-left-preserved : goal.loop-left-preserved
-loop-left-preserved c =
-    let e = c.width-step.ensures in (
-      rw e (room (goal.at.loop-left-preserved c).In-loop-left).1,
+pub loop-i-preserved : goal.loop-i-preserved
+loop-i-preserved g c =
+    let h = here g (goal.at.loop-i-preserved g c).After-place-place in
+    let t = sym c.if-not-passes.ensures in
+    let o = known_single (passing_key g.P.Part.part c.args.present _ t) (rw c.from.ensures at c.single.ensures) in (
       search rules,
-      rw e (part_next _ _ _ _ (rw (first (goal.at.loop-left-preserved c).In-loop-left) at c.loop-left.invariant.2) c.read_entry-entry.ensures (not-false _ c.if-not-entry.false) c.union-roles.ensures),
+      rw c.place-place.ensures.0 (part_next g.P.Part.part c.args.present _ _ (rw h at c.loop-i.invariant.1)
+          (rw (← c.place-place.ensures.0, le-leb _ _ c.if-place-low.false) t) (c.put.ensures c.args.present t)
+          (c.union-keys.ensures ∙ ap (union c.loop-i.keys) o)),
     )
 
-pub shape_of-table : goal.shape_of-table
-shape_of-table c = c.loop-left.invariant.1
-
 pub returns : goal.returns
-returns c =
-    let l = c.loop-left in
-    part_done _ _ (rw (no_entries _ l.place l.left _ c.loop-left-test.false) at l.invariant.2)
+returns g c =
+    let e = entries_end (value_bytes g.P.Part.part) (c.args.at + part_width g.P.Part.part * c.loop-i.i) c.args.count c.loop-i.i c.args.bytes.now c.loop-i-test.false in
+    part_done g.P.Part.part c.args.present (rw e at c.loop-i.invariant.1)

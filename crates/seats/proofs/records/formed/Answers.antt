@@ -1,17 +1,14 @@
 -- `records::formed` meets its contract: each return is a case of the test.
 -- Assumes nothing.
-use borrow.Author.Tests.{le-leb, lt-leb}
+use native.Mathlib.Omega.{arith}
+use Rattle.std.proofs.lemmas.Grind.{common_steps}
 use Rattle.seats.specs.Reading.{read_decoded}
 use Rattle.seats.proofs.records.formed.Goals as goal
 
-pub returns-then-most-b : goal.returns-then-most-b
-unfolding read_decoded
-returns-then-most-b c = simp (lt-leb _ _ c.if-most-b.true)
-
 pub returns-then-rest : goal.returns-then-rest
 unfolding read_decoded
-returns-then-rest c = simp (le-leb _ _ c.if-most-b.false, c.if-rest.true)
+returns-then-rest c = grind (arith, common_steps)
 
-pub returns-else-rest : goal.returns-else-rest
+pub returns-else-b-most : goal.returns-else-b-most
 unfolding read_decoded
-returns-else-rest c = simp (le-leb _ _ c.if-most-b.false, c.if-rest.false)
+returns-else-b-most c = grind (arith, common_steps)

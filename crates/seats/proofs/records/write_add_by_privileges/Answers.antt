@@ -11,15 +11,20 @@ use Rattle.seats.proofs.RecordBytes.{length_record, add_bytes}
 use Rattle.seats.proofs.records.write_add_by_privileges.Goals as goal
 
 pub returns-then-buffer-lt-RECORD : goal.returns-then-buffer-lt-RECORD
+unfolding read_filled
 returns-then-buffer-lt-RECORD c =
     let t = c.if-buffer-lt-RECORD.true in
     let a = c.args in
     let l = length_record 2 (fields_of a.role.0 0 (read_set a.own) 0 0) in
-    rw c.too_short.ensures (unfilled 9 _ _ (omega arith))
+    rw (c.unplaced.ensures.0, c.unplaced.ensures.1) (unfilled 9 _ _ (omega arith))
 
 pub put_set-juniors_at-requires : goal.put_set-juniors_at-requires
 unfolding bytes_of
 put_set-juniors_at-requires c = search rules
+
+pub put_number-seniors_at-requires : goal.put_number-seniors_at-requires
+unfolding bytes_of
+put_number-seniors_at-requires c = search rules
 
 pub put_number-requires : goal.put_number-requires
 unfolding bytes_of
@@ -31,5 +36,5 @@ returns c =
     let a = c.args in
     let room = c.if-buffer-lt-RECORD.false in
     let l = length_record 2 (fields_of a.role.0 0 (read_set a.own) 0 0) in
-    let w = and_then c.put_byte-role_at.ensures (and_then c.put_byte-b_at.ensures (and_then c.put_number-set_at.ensures (and_then c.put_set-juniors_at.ensures c.put_number.ensures))) in
+    let w = and_then c.put_byte-role_at.ensures (and_then c.put_byte-b_at.ensures (and_then c.put_number-set_at.ensures (and_then c.put_set-juniors_at.ensures (and_then c.put_number-seniors_at.ensures c.put_number.ensures)))) in
     filled 9 _ _ (omega arith) (rw (add_bytes a.role.0 (read_set a.own)) at w)

@@ -100,8 +100,9 @@ pub distance-length-requires : goal.distance-length-requires
 distance-length-requires c = few c
 
 pub returns-then-buffer-length : goal.returns-then-buffer-length
+unfolding read_filled
 returns-then-buffer-length c =
-    rw c.too_short.ensures (saves_nothing (counted (goal.at.returns-then-buffer-length c).After-distance-length) _ c.if-buffer-length.true)
+    rw (c.unplaced.ensures.0, c.unplaced.ensures.1) (saves_nothing (counted (goal.at.returns-then-buffer-length c).After-distance-length) _ c.if-buffer-length.true)
 
 pub put_set-roles_at-requires : goal.put_set-roles_at-requires
 put_set-roles_at-requires c =

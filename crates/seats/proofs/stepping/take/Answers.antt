@@ -12,7 +12,7 @@ returns-in_default c =
     let g = c.args in
     let s = state_of g.roles g.sets.now g.conflicts.now g.seats.now in
     ap (λ (x : Answer). (x, s)) c.refusal.ensures
-    ∙ sym (ap (perform_decoded s) (sym c.decode-decoded.ensures ∙ ap read_decoded c.in_default.is))
+    ∙ sym (ap (perform_decoded s) (sym c.decode.ensures ∙ ap read_decoded c.in_default.is))
 
 pub returns-in-Change : goal.returns-in-Change
 unfolding step perform_decoded read_decoded read_call
@@ -20,7 +20,7 @@ returns-in-Change c =
     let g = c.args in
     let s = state_of g.roles g.sets.now g.conflicts.now g.seats.now in
     c.take_change.ensures
-    ∙ sym (ap (perform_decoded s) (sym c.decode-decoded.ensures ∙ ap read_decoded c.in-WellFormed.is) ∙ ap (λ x. perform s (read_call x)) c.in-Change.is)
+    ∙ sym (ap (perform_decoded s) (sym c.decode.ensures ∙ ap read_decoded c.in-Some.is) ∙ ap (λ x. perform s (read_call x)) c.in-Change.is)
 
 pub returns-in-Request : goal.returns-in-Request
 unfolding step perform_decoded read_decoded read_call
@@ -28,4 +28,4 @@ returns-in-Request c =
     let g = c.args in
     let s = state_of g.roles g.sets.now g.conflicts.now g.seats.now in
     c.take_request.ensures
-    ∙ sym (ap (perform_decoded s) (sym c.decode-decoded.ensures ∙ ap read_decoded c.in-WellFormed.is) ∙ ap (λ x. perform s (read_call x)) c.in-Request.is)
+    ∙ sym (ap (perform_decoded s) (sym c.decode.ensures ∙ ap read_decoded c.in-Some.is) ∙ ap (λ x. perform s (read_call x)) c.in-Request.is)

@@ -8,9 +8,10 @@ use Rattle.seats.proofs.Lines.{end-joined, line_filled, line_unfilled}
 use Rattle.seats.proofs.text.write_end.Goals as goal
 
 pub returns-then-buffer-digit_count : goal.returns-then-buffer-digit_count
+unfolding read_filled
 returns-then-buffer-digit_count c =
     let s = c.args in
-    rw c.too_short.ensures (line_unfilled s.buffer.now _ (101 ∷ 110 ∷ 100 ∷ []) _ _ (end-joined s.count s.edges) (omega arith))
+    rw (c.unplaced.ensures.0, c.unplaced.ensures.1) (line_unfilled s.buffer.now _ (101 ∷ 110 ∷ 100 ∷ []) _ _ (end-joined s.count s.edges) (omega arith))
 
 pub returns : goal.returns
 unfolding read_filled

@@ -1,21 +1,17 @@
--- `seats::writing::put_number` meets its contract: i bytes are written, and those of `rest` are left.
+-- `seats::writing::put_number` meets its contract: the first bytes of the number's word are put at the place.
 -- Assumes nothing.
-use borrow.Author.Rules.{rules}
-use Rattle.seats.proofs.Written.{unwritten_length, number_start, number_next, number_end}
+use mathlib.Core.Path.{◌≡◌, ap, ◌∙◌}
+use Prim.Native.Nat.{◌+◌, ◌-◌}
+use native.Mathlib.Omega.{arith}
+use lib.ListN.{take}
+use Rattle.seats.proofs.Numbers.{length-bytes_of}
+use Rattle.seats.proofs.ShortNumbers.{bytes_taken}
+use Rattle.seats.proofs.Written.{piece_put}
 use Rattle.seats.proofs.writing.put_number.Goals as goal
 
-pub loop-i-init : goal.loop-i-init
-loop-i-init c = (search rules, number_start _ _ _ _)
-
-pub bounds-buffer-at : goal.bounds-buffer-at
-bounds-buffer-at c =
-    let l = unwritten_length c.loop-i.invariant.1 in search rules
-
-pub loop-i-preserved : goal.loop-i-preserved
-loop-i-preserved c = (search rules, number_next _ _ _ _ c.loop-i-test.true c.loop-i.invariant.1)
-
-pub shape_of-buffer : goal.shape_of-buffer
-shape_of-buffer c = unwritten_length c.loop-i.invariant.1
-
 pub returns : goal.returns
-returns c = number_end _ _ _ _ c.loop-i-test.false c.loop-i.invariant.0 c.loop-i.invariant.1
+returns c =
+    let a = c.args in
+    let k : (a.at + a.n) - a.at ≡ a.n = omega arith in
+    let e = c.copy_from_slice.ensures.after ∙ ap (take a.n) c.to_le_bytes.ensures ∙ bytes_taken a.n a.x (omega arith) in
+    rw (k, e) (piece_put a.buffer.now _ a.at a.n (rw length-bytes_of) (omega arith))

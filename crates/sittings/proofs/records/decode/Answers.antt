@@ -14,7 +14,7 @@ returns-in-Change c =
     let l = c.args.bytes.now in
     c.formed.ensures
     ∙ ap (λ (x : base.Decoded). decoded x l)
-    (ap (λ (x : call-enum.Call). base.well_formed (reading.read_call x)) (sym c.in-Change.is) ∙ sym (ap reading.read_decoded c.in-WellFormed.is) ∙ c.decode-first.ensures)
+    (ap (λ (x : call-enum.Call). base.well_formed (reading.read_call x)) (sym c.in-Change.is) ∙ sym (ap reading.read_decoded c.in-Some.is) ∙ c.decode.ensures)
 
 pub returns-in-Request : goal.returns-in-Request
 unfolding decode decoded read_call reading.read_decoded reading.read_call
@@ -22,10 +22,10 @@ returns-in-Request c =
     let l = c.args.bytes.now in
     c.formed-in-Request.ensures
     ∙ ap (λ (x : base.Decoded). decoded x l)
-    (ap (λ (x : call-enum.Call). base.well_formed (reading.read_call x)) (sym c.in-Request.is) ∙ sym (ap reading.read_decoded c.in-WellFormed.is) ∙ c.decode-first.ensures)
+    (ap (λ (x : call-enum.Call). base.well_formed (reading.read_call x)) (sym c.in-Request.is) ∙ sym (ap reading.read_decoded c.in-Some.is) ∙ c.decode.ensures)
 
-pub returns-in-Malformed : goal.returns-in-Malformed
+pub returns-in_default : goal.returns-in_default
 unfolding decode decoded reading.read_decoded
-returns-in-Malformed c =
+returns-in_default c =
     let l = c.args.bytes.now in
-    c.own.ensures ∙ ap (λ (x : base.Decoded). decoded x l) (sym (ap reading.read_decoded c.in-Malformed.is) ∙ c.decode-first.ensures)
+    c.own.ensures ∙ ap (λ (x : base.Decoded). decoded x l) (sym (ap reading.read_decoded c.in_default.is) ∙ c.decode.ensures)

@@ -14,7 +14,7 @@ returns-in_default c =
     let g = c.args in
     let z = sitting_of (state_of g.roles g.sets.now g.conflicts.now g.seats.now) g.pairs.now g.active.now in
     ap (λ (x : Answer). (x, z)) c.refusal.ensures
-    ∙ sym (ap (perform_decoded z) (sym c.decode-decoded.ensures ∙ ap read_decoded c.in_default.is))
+    ∙ sym (ap (perform_decoded z) (sym c.decode.ensures ∙ ap read_decoded c.in_default.is))
 
 pub returns-in-Change : goal.returns-in-Change
 unfolding step perform_decoded read_decoded read_call
@@ -22,7 +22,7 @@ returns-in-Change c =
     let g = c.args in
     let z = sitting_of (state_of g.roles g.sets.now g.conflicts.now g.seats.now) g.pairs.now g.active.now in
     c.take_change.ensures
-    ∙ sym (ap (perform_decoded z) (sym c.decode-decoded.ensures ∙ ap read_decoded c.in-WellFormed.is) ∙ ap (λ x. perform z (read_call x)) c.in-Change.is)
+    ∙ sym (ap (perform_decoded z) (sym c.decode.ensures ∙ ap read_decoded c.in-Some.is) ∙ ap (λ x. perform z (read_call x)) c.in-Change.is)
 
 pub returns-in-Request : goal.returns-in-Request
 unfolding step perform_decoded read_decoded read_call
@@ -30,7 +30,7 @@ returns-in-Request c =
     let g = c.args in
     let z = sitting_of (state_of g.roles g.sets.now g.conflicts.now g.seats.now) g.pairs.now g.active.now in
     c.take_request.ensures _
-    ∙ sym (ap (perform_decoded z) (sym c.decode-decoded.ensures ∙ ap read_decoded c.in-WellFormed.is) ∙ ap (λ x. perform z (read_call x)) c.in-Request.is)
+    ∙ sym (ap (perform_decoded z) (sym c.decode.ensures ∙ ap read_decoded c.in-Some.is) ∙ ap (λ x. perform z (read_call x)) c.in-Request.is)
 
 pub returns-in-Choice : goal.returns-in-Choice
 unfolding step perform_decoded read_decoded read_call
@@ -38,4 +38,4 @@ returns-in-Choice c =
     let g = c.args in
     let z = sitting_of (state_of g.roles g.sets.now g.conflicts.now g.seats.now) g.pairs.now g.active.now in
     c.take_choice.ensures _
-    ∙ sym (ap (perform_decoded z) (sym c.decode-decoded.ensures ∙ ap read_decoded c.in-WellFormed.is) ∙ ap (λ x. perform z (read_call x)) c.in-Choice.is)
+    ∙ sym (ap (perform_decoded z) (sym c.decode.ensures ∙ ap read_decoded c.in-Some.is) ∙ ap (λ x. perform z (read_call x)) c.in-Choice.is)

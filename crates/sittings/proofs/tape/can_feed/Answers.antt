@@ -14,4 +14,4 @@ returns-then-record_count-room c =
 pub returns : goal.returns
 returns c =
     let s = c.args in
-    measured_fits step (read_sitting s.sitting) s.count s.part.now _ s.room c.record_count.ensures c.if-record_count-room.false c.run-ran.ensures
+    measured_fits step (read_sitting s.sitting) s.count s.part.now _ s.room c.record_count.ensures c.if-record_count-room.false c.run.ensures
