@@ -6,7 +6,7 @@ use Rattle.graph.specs.Reading.{read_set, graph_of, read_change}
 use Rattle.graph.specs.declared.Refusal.{Refusal}
 use Rattle.seats.specs.Seats.{State, fresh}
 use Rattle.seats.specs.Calls.{Call, change, declare, lift, assign, unassign, ask, Answer, accepted, answered, refused, with_conflicts, with_seats}
-use Rattle.seats.specs.Records.{Decoded, malformed, well_formed}
+use Rattle.seats.specs.Records.{Decoded, malformed, well_formed, Fields}
 use Rattle.seats.specs.Bytes.{Filled, written, too_short}
 use Rattle.seats.specs.Images.{Counts, Measured, measured, unmeasured}
 use Rattle.seats.specs.Tape.{PartAnswer, fills, uncounted}
@@ -16,6 +16,7 @@ use Rattle.seats.specs.declared.Request.TheVariants as requests
 use Rattle.seats.specs.declared.Call as call-enum
 use Rattle.seats.specs.declared.Call.TheVariants as calls
 use Rattle.seats.specs.declared.Step.{Step}
+use Rattle.seats.specs.declared.records.Fields as fields-struct
 use Rattle.seats.specs.declared.FeedError as error-enum
 use Rattle.seats.specs.declared.FeedError.TheVariants as errors
 use Rattle.seats.specs.declared.Answer as answer-enum
@@ -46,6 +47,10 @@ read_request (requests.Ask a b) = ask a.0 b.0
 unfoldable pub read_call : call-enum.Call → Call
 read_call (calls.Change c) = change (read_change c)
 read_call (calls.Request r) = read_request r
+
+-- The fields of a record beside its kind.
+abbrev pub read_fields : fields-struct.Fields → Fields
+read_fields f = record { a = f.a; b = f.b; x = read_set f.x; y = f.y; z = f.z }
 
 -- What a record decodes to.
 unfoldable pub read_decoded : Option Step → Decoded

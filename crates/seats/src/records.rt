@@ -4,7 +4,7 @@ ghost use Rattle.graph.specs.Reading.{read_set, read_removal, read_change};
 ghost use Rattle.seats.specs.Bytes.{number_at, fill};
 ghost use Rattle.seats.specs.Calls.{change};
 ghost use Rattle.seats.specs.Records.{record_length, malformed, well_formed, fields, record_of, all_empty, unused as no_sets, kinds, decode};
-ghost use Rattle.seats.specs.Reading.{read_call, read_request, read_decoded, read_filled};
+ghost use Rattle.seats.specs.Reading.{read_call, read_request, read_decoded, read_fields, read_filled};
 ghost use Rattle.seats.specs.Working.{fields_of};
 
 use crate::endian::{number, set_at};
@@ -15,12 +15,35 @@ use graph::{Change, Privilege, PrivilegeSet, Refusal, Removal, Role, privileges}
 // How many bytes a record has.
 pub const RECORD: usize = 32;
 
-// The little-endian number of bytes 3 to 7, which is zero where each of them is.
-fn spare(bytes: &[u8]) -> u64
-    requires { 8 ≤ length bytes.now }
-    ensures { result ≡ number_at 5 3 bytes.now }
+// The fields of a record beside its kind: a, b, and the sets at 8, 16 and 24.
+#[derive(Clone, Copy)]
+pub(crate) struct Fields {
+    pub a: u8,
+    pub b: u8,
+    pub x: PrivilegeSet,
+    pub y: u64,
+    pub z: u64,
+}
+
+// The fields of a record.
+fn fields_in(bytes: &[u8]) -> Fields
+    requires { length bytes.now ≡ record_length }
+    ensures { read_fields result ≡ fields bytes.now }
 {
-    number(bytes, 3, 5)
+    Fields {
+        a: bytes[1],
+        b: bytes[2],
+        x: set_at(bytes, 8),
+        y: number(bytes, 16, 8),
+        z: number(bytes, 24, 8),
+    }
+}
+
+// Whether bytes have a record's length and zeros in bytes 3 to 7.
+fn is_record(bytes: &[u8]) -> bool
+    ensures { result ≡ (eqb (length bytes.now) record_length && eqb (number_at 5 3 bytes.now) 0) }
+{
+    bytes.len() == RECORD && number(bytes, 3, 5) == 0
 }
 
 // Whether a set of privileges and two sets of roles are empty.
@@ -67,17 +90,18 @@ fn removal(b: u8) -> Removal
 }
 
 // What a kind makes of the fields beside it.
-fn named(kind: u8, a: u8, b: u8, own: PrivilegeSet, y: u64, z: u64) -> Option<Step>
-    ensures { read_decoded result ≡ get_or (malformed ∷ kinds (fields_of a b (read_set own) y z)) kind malformed }
+fn named(kind: u8, fields: Fields) -> Option<Step>
+    ensures { read_decoded result ≡ get_or (malformed ∷ kinds (read_fields fields)) kind malformed }
 {
-    let none = unused(own, y, z);
+    let Fields { a, b, x, y, z } = fields;
+    let none = unused(x, y, z);
     match kind {
-        1 => decoded_change(b, 0, true, Change::AddByPlace(Role(a), own, y, z)),
+        1 => decoded_change(b, 0, true, Change::AddByPlace(Role(a), x, y, z)),
         2 => decoded_change(
             b,
             0,
             unused(privileges::empty(), y, z),
-            Change::AddByPrivileges(Role(a), own),
+            Change::AddByPrivileges(Role(a), x),
         ),
         3 => decoded_change(b, 1, none, Change::RemoveRole(Role(a), removal(b))),
         4 => decoded_change(b, 255, none, Change::Grant(Role(a), Privilege(b))),
@@ -97,27 +121,21 @@ fn named(kind: u8, a: u8, b: u8, own: PrivilegeSet, y: u64, z: u64) -> Option<St
 pub fn decode(bytes: &[u8]) -> Option<Step>
     ensures { read_decoded result ≡ decode bytes.now }
 {
-    if bytes.len() != RECORD || spare(bytes) != 0 {
+    if !is_record(bytes) {
         return None;
     }
-    named(
-        bytes[0],
-        bytes[1],
-        bytes[2],
-        set_at(bytes, 8),
-        number(bytes, 16, 8),
-        number(bytes, 24, 8),
-    )
+    named(bytes[0], fields_in(bytes))
 }
 
 // Whether any bytes have a record's length, zeros in bytes 3 to 7 and no sets.
 pub fn names_no_set(bytes: &[u8]) -> bool
     ensures { let l = bytes.now in result ≡ (eqb (length l) record_length && (eqb (number_at 5 3 l) 0 && no_sets 0 (fields l))) }
 {
-    if bytes.len() != RECORD || spare(bytes) != 0 {
+    if !is_record(bytes) {
         return false;
     }
-    unused(set_at(bytes, 8), number(bytes, 16, 8), number(bytes, 24, 8))
+    let fields = fields_in(bytes);
+    unused(fields.x, fields.y, fields.z)
 }
 
 // The record that adds a role by its privileges, kind 2, at the buffer's front; or refusal 9 where the buffer is shorter.

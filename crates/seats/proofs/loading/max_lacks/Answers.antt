@@ -21,7 +21,7 @@ returns-then-not-included c =
     let a = c.args in
     let g = drawn_from a.roles a.sets.now in
     let top = read_set c.entry-top.result in
-    any_hit c.loop-rest.invariant c.loop-rest-test.true c.lowest_member-r.ensures (read_test (λ u. not (included u top)) c.entry.ensures (ap not c.included.ensures) c.if-not-included.true-raw)
+    any_hit c.loop-rest.invariant c.loop-rest-test.true c.lowest_member-r.ensures (read_test (λ u. not (included u top)) c.entry.ensures (ap not c.included.ensures) (ap not c.if-not-included.true))
     ∙ any_ordinary g _ ∙ ap (λ (top : ℕ). any role_count (λ r. ordinary g r && lacks top g.sets r)) c.entry-top.ensures
 
 pub loop-rest-smaller : goal.loop-rest-smaller
@@ -31,7 +31,7 @@ pub loop-rest-preserved : goal.loop-rest-preserved
 loop-rest-preserved c =
     let top = read_set c.entry-top.result in
     goes_on c.loop-rest.invariant c.loop-rest-test.true c.lowest_member-r.ensures c.without_lowest-rest.ensures
-    (read_test (λ u. not (included u top)) c.entry.ensures (ap not c.included.ensures) c.if-not-included.false-raw)
+    (read_test (λ u. not (included u top)) c.entry.ensures (ap not c.included.ensures) (ap not c.if-not-included.false))
 
 pub returns : goal.returns
 unfolding effective

@@ -1,16 +1,12 @@
--- `records::names_no_set` meets its contract: each return is a case of the test.
+-- `records::names_no_set` meets its contract: what is a record names no set where its sets are empty.
 -- Assumes nothing.
-use borrow.Author.Tests.{eq-eqb}
-use mathlib.Core.Path.{sym, ap, ◌∙◌}
+use mathlib.Core.Bool.{and_assoc}
+use mathlib.Core.Path.{ap, ◌∙◌}
 use Rattle.seats.specs.Records.{unused}
-use Rattle.seats.proofs.Decoding.{fields_read}
 use Rattle.seats.proofs.records.names_no_set.Goals as goal
 
 pub returns : goal.returns
 unfolding unused
 returns c =
-    let l = c.args.bytes.now in
-    let f = fields_read l c.set_at.ensures c.number.ensures.0 c.number-2.ensures.0 in
-    simp
-    (eq-eqb _ _ c.if-bytes-ne-RECORD.false, eq-eqb _ _ (sym c.spare.ensures ∙ c.if-spare-ne0.false))
-    (c.unused.ensures ∙ ap (unused 0) f)
+    let e = c.if-not-is_record.ensures in
+    rw (← and_assoc, ← e) (c.unused.ensures ∙ ap (unused 0) c.fields_in-fields.ensures)

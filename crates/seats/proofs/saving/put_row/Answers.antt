@@ -1,14 +1,11 @@
 -- `seats::saving::put_row` meets its contract: the conflicts with the privileges visited are written, and those with `rest` are left.
 -- Assumes nothing.
 use borrow.Author.Rules.{rules}
-use borrow.Author.Tests.{not-false}
-use mathlib.Core.Bool.{not}
-use mathlib.Core.Path.{◌≡◌, sym, ap, ◌∙◌, subst}
+use borrow.Author.Tests.{eqb-true, eqb-false}
+use mathlib.Core.Path.{◌≡◌, sym, ◌∙◌}
 use mathlib.Core.Logic.{◌≢◌}
 use Prim.Native.Nat.{ℕ, ◌<◌, ◌^◌}
 use native.Mathlib.Omega.{arith}
-use lib.Dec.{T, T_not, eqb}
-use Rattle.sets.proofs.Tests.{equal_test, test_equal}
 use Rattle.sets.proofs.Laws.{union-empty}
 use Rattle.sets.proofs.Walks.{lowest_below, next_lt, next_falls}
 use Rattle.graph.specs.Graph.{privilege_count}
@@ -35,7 +32,7 @@ loop-rest-init c =
 
 -- Where the loop goes on, privileges are left.
 some : (c : In-loop-rest) → read_set c.loop-rest.rest ≢ 0
-some c e = T_not (eqb (read_set c.loop-rest.rest) 0) (subst T (sym (ap not (sym c.is_empty.ensures) ∙ c.loop-rest-test.true-raw)) tt) (equal_test e)
+some c = eqb-false _ _ (sym c.is_empty.ensures ∙ c.loop-rest-test.true)
 
 pub overflow_cast-higher : goal.overflow_cast-higher
 overflow_cast-higher c =
@@ -66,5 +63,5 @@ shape_of-buffer c = unwritten_length c.loop-rest.invariant.1
 
 pub returns : goal.returns
 returns c =
-    let e : read_set c.loop-rest.rest ≡ 0 = test_equal (subst T (sym (sym c.is_empty.ensures ∙ not-false _ c.loop-rest-test.false-raw)) tt) in
+    let e : read_set c.loop-rest.rest ≡ 0 = eqb-true _ _ (sym c.is_empty.ensures ∙ c.loop-rest-test.false) in
     rw (sym (all (goal.at.returns c).After-union-rest)) (members_written privilege_count privilege_bytes _ e c.loop-rest.invariant.1)

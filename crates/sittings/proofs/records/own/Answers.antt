@@ -1,7 +1,6 @@
 -- `sittings::records::own` meets its contract: what has a record's length, zeros in bytes 3 to 7 and no sets is named by its kind.
 -- Assumes nothing.
-use borrow.Author.Tests.{not-true, not-false}
-use mathlib.Core.Bool.{Bool, not, true, false, ◌&&◌}
+use mathlib.Core.Bool.{Bool, true, false, ◌&&◌}
 use mathlib.Core.List.{List}
 use mathlib.Core.Path.{◌≡◌, sym, ◌∙◌, subst}
 use native.Mathlib.Omega.{arith}
@@ -21,29 +20,29 @@ names_none l = eqb (length l) record_length && (eqb (number_at 5 3 l) 0 && unuse
 
 -- It fails, and nothing decodes; or it passes, and the kind decides on what has a record's length.
 module _ (l : List ℕ) {r : Bool} (e : r ≡ names_none l) where
-  misfits : not r ≡ true → malformed ≡ own l
+  misfits : r ≡ false → malformed ≡ own l
   unfolding own
-  misfits t = sym (rw (sym e ∙ not-true r t))
+  misfits t = sym (rw (sym e ∙ t))
 
-  sized : not r ≡ false → length l ≡ record_length
-  sized t = test_equal (both (eqb (length l) record_length) (eqb (number_at 5 3 l) 0 && unused 0 (fields l)) (subst T (sym (not-false r t) ∙ e) tt)).0
+  sized : r ≡ true → length l ≡ record_length
+  sized t = test_equal (both (eqb (length l) record_length) (eqb (number_at 5 3 l) 0 && unused 0 (fields l)) (subst T (sym t ∙ e) tt)).0
 
-  kinds : not r ≡ false → own_kind (get_or l 0 0) (get_or l 1 0) (get_or l 2 0) ≡ own l
+  kinds : r ≡ true → own_kind (get_or l 0 0) (get_or l 1 0) (get_or l 2 0) ≡ own l
   unfolding own fields
-  kinds t = sym (rw (sym e ∙ not-false r t))
+  kinds t = sym (rw (sym e ∙ t))
 
 pub returns-then-not-names_no_set : goal.returns-then-not-names_no_set
 unfolding read_decoded
-returns-then-not-names_no_set c = misfits c.args.bytes.now c.names_no_set.ensures c.if-not-names_no_set.true-raw
+returns-then-not-names_no_set c = misfits c.args.bytes.now c.names_no_set.ensures c.if-not-names_no_set.true
 
 pub bounds-bytes-0 : goal.bounds-bytes-0
-bounds-bytes-0 c = omega (arith, sized c.args.bytes.now c.names_no_set.ensures c.if-not-names_no_set.false-raw)
+bounds-bytes-0 c = omega (arith, sized c.args.bytes.now c.names_no_set.ensures c.if-not-names_no_set.false)
 
 pub bounds-bytes-1 : goal.bounds-bytes-1
-bounds-bytes-1 c = omega (arith, sized c.args.bytes.now c.names_no_set.ensures c.if-not-names_no_set.false-raw)
+bounds-bytes-1 c = omega (arith, sized c.args.bytes.now c.names_no_set.ensures c.if-not-names_no_set.false)
 
 pub bounds-bytes-2 : goal.bounds-bytes-2
-bounds-bytes-2 c = omega (arith, sized c.args.bytes.now c.names_no_set.ensures c.if-not-names_no_set.false-raw)
+bounds-bytes-2 c = omega (arith, sized c.args.bytes.now c.names_no_set.ensures c.if-not-names_no_set.false)
 
 pub returns : goal.returns
-returns c = c.named.ensures ∙ kinds c.args.bytes.now c.names_no_set.ensures c.if-not-names_no_set.false-raw
+returns c = c.named.ensures ∙ kinds c.args.bytes.now c.names_no_set.ensures c.if-not-names_no_set.false

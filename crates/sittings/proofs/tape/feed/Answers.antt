@@ -1,6 +1,5 @@
 -- `tape::feed` meets its contract: a part whose records cannot be counted or whose lines have no room is refused, and any other run.
 -- Assumes nothing.
-use borrow.Author.Tests.{not-true, not-false}
 use Prim.Native.Nat.{◌+◌, ◌^◌, ◌<◌}
 use native.Mathlib.Omega.{arith}
 use lib.ListN.{length}
@@ -37,7 +36,7 @@ unfolding read_part
 returns-then-not-can_feed c =
     let s = c.args in
     feed_refused step (read_sitting s.sitting) s.count s.part.now s.buffer.now (counted (goal.at.returns-then-not-can_feed c).Else-count-record_count)
-    (test_fails step (read_sitting s.sitting) s.count s.part.now s.buffer.now _ c.can_feed.ensures (not-true _ c.if-not-can_feed.true-raw))
+    (test_fails step (read_sitting s.sitting) s.count s.part.now s.buffer.now _ c.can_feed.ensures c.if-not-can_feed.true)
 
 pub run-ran-requires : goal.run-ran-requires
 run-ran-requires c = counted (goal.at.run-ran-requires c).Else-count-record_count
@@ -47,4 +46,4 @@ unfolding read_part
 returns c =
     let s = c.args in
     feed_run step (read_sitting s.sitting) s.count s.part.now s.buffer.now (counted (goal.at.returns c).Else-count-record_count) c.run-ran.ensures
-    (test_holds step (read_sitting s.sitting) s.count s.part.now s.buffer.now _ c.can_feed.ensures (not-false _ c.if-not-can_feed.false-raw) c.run-ran.ensures)
+    (test_holds step (read_sitting s.sitting) s.count s.part.now s.buffer.now _ c.can_feed.ensures c.if-not-can_feed.false c.run-ran.ensures)
