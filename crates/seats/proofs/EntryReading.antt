@@ -2,50 +2,22 @@
 -- Assumes nothing.
 use mathlib.Core.Path.{◌≡◌, refl, sym, ap, ◌∙◌, subst}
 use mathlib.Core.Bool.{Bool, true, false, ◌&&◌, or_assoc}
-use mathlib.Core.Logic.{◌≢◌}
 use mathlib.Core.List.{List, [], ◌∷◌}
-use Prim.Native.Nat.{ℕ, zero, suc, ◌+◌, ◌-◌, ◌*◌, ◌≤◌, ◌<◌}
-use native.Mathlib.Nat.{mul-suc}
+use Prim.Native.Nat.{ℕ, suc, ◌+◌, ◌<◌}
 use native.Mathlib.Numerals.{add-one}
 use native.Mathlib.Omega.{arith}
-use lib.ListN.{get_or}
 use lib.Bits.{or_zero_l}
 use lib.Dec.{T, T_not, leb, leb→le, le→leb, ltb, ltb→lt}
 use Rattle.sets.specs.Sets.{member, single, union}
 use Rattle.sets.proofs.Tests.{both, join}
 use Rattle.sets.proofs.Laws.{member-union, equal_members, union-empty}
-use Rattle.seats.specs.Bytes.{number_at}
 use Rattle.graph.specs.Graph.{privilege_count}
 use Rattle.seats.specs.Seats.{seat_count}
-use Rattle.seats.specs.Images.{Entry, entries_at, keys, stored, stored_pairs, no_ordinary_number}
-use Rattle.seats.specs.ImageWork.{Part, Roles, Conflicts, Seats, entry_place, entry_passes, store_entries, entry_of, entry_at, ascends, EntriesStored}
+use Rattle.seats.specs.Images.{Entry, keys, stored, stored_pairs, no_ordinary_number}
+use Rattle.seats.specs.ImageWork.{Part, Roles, Conflicts, Seats, entry_place, entry_passes, store_entries, ascends, EntriesStored}
 use Rattle.seats.proofs.EntryBytes.{Each}
 use Rattle.seats.proofs.AscendingEntries.{Rising}
 use Rattle.seats.proofs.LoadFacts.{role_number}
-
--- ---- bytes
--- Where entries are left, the first stands at the place, and the others behind it.
-first_entry : (n i count : ℕ) (l : List ℕ) → count ≢ 0 → entries_at n i count l ≡ entry_at n i l ∷ entries_at n (i + (1 + n)) (count - 1) l
-unfolding entries_at
-first_entry n i zero l some = absurd (some refl)
-first_entry n i (suc count) l some =
-    let v = ap (λ (k : ℕ). number_at n k l) (sym (add-one i)) in
-    let p : suc i + n ≡ i + (1 + n) = omega arith in
-    let q : count ≡ suc count - 1 = omega arith in
-    λ d. entry_of (get_or l i 0) (v d) ∷ entries_at n (p d) (q d) l
-
--- Of so many entries at a place, entry i and those behind it.
-pub entry_here : (n p count i : ℕ) (l : List ℕ) → i < count
-    → entries_at n (p + (1 + n) * i) (count - i) l ≡ entry_at n (p + (1 + n) * i) l ∷ entries_at n (p + (1 + n) * (i + 1)) (count - (i + 1)) l
-entry_here n p count i l h =
-    let a : p + (1 + n) * i + (1 + n) ≡ p + (1 + n) * (i + 1) = omega (arith, mul-suc (1 + n) i) in
-    let b : count - i - 1 ≡ count - (i + 1) = omega arith in
-    rw (← a, ← b) (first_entry n (p + (1 + n) * i) (count - i) l (λ e. let k : i < count = h in absurd (omega arith)))
-
--- Behind the last there are none.
-pub entries_end : (n k count i : ℕ) (l : List ℕ) → count ≤ i → entries_at n k (count - i) l ≡ []
-unfolding entries_at
-entries_end n k count i l h = let e : count - i ≡ 0 = omega arith in rw e
 
 -- ---- the test of an ascending list
 module _ (place : Entry → ℕ) (good : Entry → Bool) where

@@ -29,6 +29,7 @@ pub mod StoredPairs
 pub mod ImageLength
 pub mod ImageAlone
 pub mod ImageReading
+pub mod EntrySlices
 pub mod EntryReading
 pub mod LoadFacts
 pub mod LoadRefusals

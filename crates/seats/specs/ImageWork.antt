@@ -91,10 +91,6 @@ store_entries Seats l t = stored l t
 abbrev pub entry_of : ℕ → ℕ → Entry
 entry_of key value = record { key = key; value = value }
 
--- The entry at place i whose value takes n bytes.
-abbrev pub entry_at : ℕ → ℕ → List ℕ → Entry
-entry_at n i l = entry_of (get_or l i 0) (number_at n (i + 1) l)
-
 -- The entries' places ascend strictly from low on, and each entry passes.
 unfoldable pub ascends : (Entry → ℕ) → (Entry → Bool) → ℕ → List Entry → Bool
 ascends place good low [] = true

@@ -1,5 +1,5 @@
 // Loading: the state of the image that ends any bytes, or the refusal of it.
-ghost use Rattle.std.specs.Prelude.{◌≡◌, not, cond, ◌&&◌, ◌+◌, ◌*◌, ◌≤◌, length, replicate};
+ghost use Rattle.std.specs.Prelude.{◌≡◌, not, cond, ◌&&◌, ◌+◌, ◌/◌, ◌≤◌, length, replicate};
 ghost use Rattle.sets.specs.Counting.{any};
 ghost use Rattle.sets.specs.Sets.{empty, included};
 ghost use Rattle.graph.specs.Graph.{role_count, privilege_count, max_role, ordinary, effective};
@@ -14,8 +14,8 @@ ghost use Rattle.seats.specs.ImageWork.{value_bytes, part_width, table_in, Entri
 
 use crate::endian::{number, set_at};
 use crate::image::{
-    CONFLICT_ENTRY, ConflictEntries, LEAST, Part, ROLE_ENTRY, RoleEntries, SET, SeatEntries,
-    TRAILER, counts_at, distance,
+    CONFLICT_ENTRY, ConflictEntries, LEAST, Part, ROLE_ENTRY, RoleEntries, SEAT_ENTRY, SET,
+    SeatEntries, TRAILER, counts_at, distance,
 };
 use crate::searches::pair_seat;
 use crate::writing::unplaced;
@@ -25,24 +25,16 @@ use graph::searching::{empty_role, pair_role, twin_role};
 use graph::table::{entry, store};
 use graph::{Found, Refusal, privileges};
 
-// Stores so many entries of a part, strictly ascending, in its table, and gives the set of their keys, or nothing where one is refused; the roles of a seat must be among those present.
-fn read_entries<P: Part>(
-    bytes: &[u8],
-    at: usize,
-    count: usize,
-    present: u64,
-    table: &mut [u64],
-) -> Option<u64>
-    requires { at + part_width P.part * count ≤ length bytes.now }
-    ensures { EntriesRead P.part present (entries_at (value_bytes P.part) at count bytes.now) (table_in P.part table.old) (table_in P.part table.new) result }
+// Stores the entries of a part that the bytes hold, strictly ascending, in its table, and gives the set of their keys, or nothing where one is refused; the roles of a seat must be among those present.
+fn read_entries<P: Part>(entries: &[u8], present: u64, table: &mut [u64]) -> Option<u64>
+    ensures { EntriesRead P.part present (entries_at (value_bytes P.part) 0 (length entries.now / part_width P.part) entries.now) (table_in P.part table.old) (table_in P.part table.new) result }
 {
     let value_bytes = P::value_bytes();
     let mut keys = 0;
     let mut low = 0;
-    for i in 0..count {
-        let key_at = at + (1 + value_bytes) * i;
-        let key = bytes[key_at];
-        let value = number(bytes, key_at + 1, value_bytes);
+    for entry in entries.chunks_exact(1 + value_bytes) {
+        let key = entry[0];
+        let value = number(entry, 1, value_bytes);
         let place = P::place(key, value);
         if place < low || !P::passes(key, value, present) {
             return None;
@@ -72,10 +64,11 @@ fn read_contents(
     let roles_at = at + SET;
     let conflicts_at = roles_at + ROLE_ENTRY * counts.roles;
     let seats_at = conflicts_at + CONFLICT_ENTRY * counts.conflicts;
+    let end = seats_at + SEAT_ENTRY * counts.seats;
     store(sets, 1, set_at(bytes, at));
-    let roles = read_entries::<RoleEntries>(bytes, roles_at, counts.roles, 0, sets)?;
-    read_entries::<ConflictEntries>(bytes, conflicts_at, counts.conflicts, 0, conflicts)?;
-    read_entries::<SeatEntries>(bytes, seats_at, counts.seats, roles, seats)?;
+    let roles = read_entries::<RoleEntries>(&bytes[roles_at..conflicts_at], 0, sets)?;
+    read_entries::<ConflictEntries>(&bytes[conflicts_at..seats_at], 0, conflicts)?;
+    read_entries::<SeatEntries>(&bytes[seats_at..end], roles, seats)?;
     Some(roles)
 }
 

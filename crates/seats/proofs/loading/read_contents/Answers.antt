@@ -4,6 +4,7 @@ use borrow.Author.Rules.{rules}
 use Rattle.seats.specs.Images.{distance, contents}
 use Rattle.seats.specs.Reading.{read_counts}
 use Rattle.seats.proofs.LoadChecks.{roles_stop, conflicts_stop, seats_stop, contents_read}
+use Rattle.seats.proofs.EntrySlices.{roles_sliced, conflicts_sliced, seats_sliced}
 use Rattle.seats.proofs.loading.read_contents.Goals as goal
 
 pub overflow_mul-conflicts_at : goal.overflow_mul-conflicts_at
@@ -26,40 +27,56 @@ pub set_at-requires : goal.set_at-requires
 unfolding distance
 set_at-requires c = search rules
 
-pub read_entries-requires : goal.read_entries-requires
+pub overflow_mul-end : goal.overflow_mul-end
 unfolding distance
-read_entries-requires c = search rules
+overflow_mul-end c = search rules
 
-pub read_entries-requires-2 : goal.read_entries-requires-2
+pub overflow_add-end : goal.overflow_add-end
 unfolding distance
-read_entries-requires-2 c = search rules
+overflow_add-end c = search rules
 
-pub read_entries-requires-3 : goal.read_entries-requires-3
+pub slice_bounds-read_entries-end : goal.slice_bounds-read_entries-end
 unfolding distance
-read_entries-requires-3 c = search rules
+slice_bounds-read_entries-end c = search rules
+
+pub slice_bounds-read_entries-end-2 : goal.slice_bounds-read_entries-end-2
+unfolding distance
+slice_bounds-read_entries-end-2 c = search rules
+
+pub slice_bounds-read_entries-end-3 : goal.slice_bounds-read_entries-end-3
+unfolding distance
+slice_bounds-read_entries-end-3 c = search rules
 
 pub returns-in_err-roles : goal.returns-in_err-roles
-unfolding contents
 returns-in_err-roles c =
     let g = c.args in
-    rw c.from_residual.ensures (roles_stop (contents g.bytes.now g.at (read_counts g.counts)) c.in_err-roles.ensures)
+    let n = read_counts g.counts in
+    let b = c.requires.counts_in_bounds in
+    rw c.from_residual.ensures (roles_stop (contents g.bytes.now g.at n) (rw (roles_sliced g.bytes.now g.at n b) at c.in_err-roles.ensures))
 
 pub returns-in_err-read_entries : goal.returns-in_err-read_entries
-unfolding contents
 returns-in_err-read_entries c =
     let g = c.args in
-    rw c.from_residual-in_err-read_entries.ensures (conflicts_stop (contents g.bytes.now g.at (read_counts g.counts)) c.in_ok-roles.ensures.tested c.in_err-read_entries.ensures)
+    let n = read_counts g.counts in
+    let b = c.requires.counts_in_bounds in
+    rw c.from_residual-in_err-read_entries.ensures
+    (conflicts_stop (contents g.bytes.now g.at n) (rw (roles_sliced g.bytes.now g.at n b) at c.in_ok-roles.ensures).tested (rw (conflicts_sliced g.bytes.now g.at n b) at c.in_err-read_entries.ensures))
 
 pub returns-in_err-read_entries-2 : goal.returns-in_err-read_entries-2
 unfolding contents
 returns-in_err-read_entries-2 c =
     let g = c.args in
+    let n = read_counts g.counts in
+    let b = c.requires.counts_in_bounds in
     rw c.from_residual-in_err-read_entries-2.ensures
-    (seats_stop (contents g.bytes.now g.at (read_counts g.counts)) (rw (c.store.ensures, c.set_at.ensures, c.requires.empty_sets) at c.in_ok-roles.ensures) (rw c.requires.empty_conflicts at c.in_ok-read_entries.ensures) c.in_err-read_entries-2.ensures)
+    (seats_stop (contents g.bytes.now g.at n) (rw (c.store.ensures, c.set_at.ensures, c.requires.empty_sets, roles_sliced g.bytes.now g.at n b) at c.in_ok-roles.ensures) (rw (conflicts_sliced g.bytes.now g.at n b, c.requires.empty_conflicts) at c.in_ok-read_entries.ensures) (rw (seats_sliced g.bytes.now g.at n b) at c.in_err-read_entries-2.ensures))
 
 pub returns : goal.returns
 unfolding contents
 returns c =
     let g = c.args in
-    contents_read (contents g.bytes.now g.at (read_counts g.counts))
-    (rw (c.store.ensures, c.set_at.ensures, c.requires.empty_sets) at c.in_ok-roles.ensures) (rw c.requires.empty_conflicts at c.in_ok-read_entries.ensures) (rw c.requires.empty_seats at c.in_ok-read_entries-2.ensures)
+    let n = read_counts g.counts in
+    let b = c.requires.counts_in_bounds in
+    contents_read (contents g.bytes.now g.at n) (rw (c.store.ensures, c.set_at.ensures, c.requires.empty_sets, roles_sliced g.bytes.now g.at n b) at c.in_ok-roles.ensures)
+    (rw (conflicts_sliced g.bytes.now g.at n b, c.requires.empty_conflicts) at c.in_ok-read_entries.ensures)
+    (rw (seats_sliced g.bytes.now g.at n b, c.requires.empty_seats) at c.in_ok-read_entries-2.ensures)
