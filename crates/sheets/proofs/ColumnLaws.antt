@@ -9,7 +9,7 @@ use native.Mathlib.Omega.{arith}
 use lib.ListN.{length, take, drop, set, length-set}
 use lib.Seq.{take-suc-set}
 use lib.Dec.{eqb}
-use borrow.Author.Tests.{eqb-true, eqb-false, eq-eqb}
+use borrow.Author.Tests.{eqb-true, eqb-false}
 use Rattle.graph.specs.Graph.{privilege_count}
 use Rattle.sheets.specs.Rfc.{comma}
 use Rattle.sheets.specs.Parsing.{Read, got, bad, and_then, head, field, ended, fronted, columns, opened, at_end, heading}

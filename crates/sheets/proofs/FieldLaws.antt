@@ -3,8 +3,8 @@
 use mathlib.Core.Bool.{Bool, true, false, cond, ◌&&◌}
 use mathlib.Core.List.{List, [], ◌∷◌}
 use mathlib.Core.Logic.{◌⊎◌, inl, inr}
-use mathlib.Core.Path.{◌≡◌, refl, sym, ap, ◌∙◌}
-use Prim.Native.Nat.{ℕ, ◌+◌, ◌-◌, ◌*◌, ◌≤◌, ◌<◌}
+use mathlib.Core.Path.{◌≡◌, refl, sym, ap}
+use Prim.Native.Nat.{ℕ, ◌+◌, ◌*◌, ◌≤◌, ◌<◌}
 use native.Mathlib.Omega.{arith}
 use lib.ListN.{length, take, drop}
 use lib.Dec.{eqb, ltb}
@@ -15,7 +15,7 @@ use Rattle.std.specs.Borrow.{Bor}
 use Rattle.seats.specs.Tape.{line_feed}
 use Rattle.sheets.specs.Rfc.{comma, quote, carriage_return}
 use Rattle.sheets.specs.Parsing.{Read, got, bad, and_then, head, value, longer, begun, plain, binary, closed, quotable, further, opened, ended}
-use Rattle.sheets.specs.Working.{read_as, read_number, read_end}
+use Rattle.sheets.specs.Working.{read_end}
 use Rattle.sheets.proofs.NumberReading.{value-digit}
 
 -- ---- the word at a text's front

@@ -29,9 +29,6 @@ pub record Marking (s cols : List ℕ) (i set : ℕ) (t : List ℕ) : Type 0 whe
   pub within : i ≤ length cols
   pub same : added cols empty (marks (length cols) s) ≡ added (drop i cols) set (marks (length cols - i) t)
 
-pub marking_start : (s cols : List ℕ) {set : ℕ} → set ≡ empty → Marking s cols 0 set s
-marking_start s cols e = record { within = omega arith; same = let d : length cols - 0 ≡ length cols = omega arith in rw (d, e) }
-
 -- One mark more, in front of those behind it.
 added-fronted : (c : ℕ) (cs : List ℕ) (set : ℕ) (b : Bool) (r : Read (List Bool)) → added (c ∷ cs) set (fronted b r) ≡ added cs (union set (column_set c b)) r
 unfolding added fronted known_set

@@ -2,7 +2,7 @@
 -- Assumes nothing.
 use mathlib.Core.Bool.{Bool, true, false}
 use mathlib.Core.List.{List, [], ◌∷◌, ◌++◌, append_assoc, append-nil}
-use mathlib.Core.Path.{◌≡◌, refl, sym, ap, ap₂, ◌∙◌, subst}
+use mathlib.Core.Path.{◌≡◌, refl, sym, ap, ◌∙◌, subst}
 use Prim.Native.Nat.{ℕ, ◌+◌, ◌-◌, ◌*◌, ◌≤◌, ◌<◌}
 use native.Mathlib.Decide.{dec_lt}
 use native.Mathlib.Omega.{arith}
@@ -10,7 +10,7 @@ use lib.ListN.{length, take, drop, length-append, length-drop, drop_of_length-le
 use lib.Seq.{sets-eq, take_all, drop-drop}
 use lib.Dec.{eqb}
 use borrow.Author.Tests.{le-leb, eqb-true, eqb-false}
-use Rattle.std.specs.Prelude.{Result, Ok, Err}
+use Rattle.std.specs.Prelude.{Ok, Err}
 use Rattle.seats.specs.Bytes.{Filled, written, fill}
 use Rattle.seats.specs.Records.{record_length}
 use Rattle.seats.specs.Tape.{joined}
@@ -70,9 +70,6 @@ pub record Counting (s : List ℕ) (k n : ℕ) (t : List ℕ) : Type 0 where
   pub room : n + length t ≤ length s
   pub same : length (rows k s).0 ≡ n + length (rows k t).0
   pub whole : (rows k s).1 ≡ (rows k t).1
-
-pub counting_start : (s : List ℕ) (k : ℕ) → Counting s k 0 s
-counting_start s k = record { room = omega arith; same = omega arith; whole = refl }
 
 module _ {s : List ℕ} {k n : ℕ} {t : List ℕ} (c : Counting s k n t) where
   -- Nothing is left, or a bad row.

@@ -22,7 +22,7 @@ read_as f (Some r) = got (f r.0) r.1.now
 abbrev pub read_number : Option (ℕ × Bor (List ℕ)) → Read ℕ
 read_number = read_as (λ n. n)
 
--- Where each call of a function reads what f reads, r is read as that is, plain or between quotes.
+-- Where each call of a function reads what f reads, r is what f reads plain or between quotes.
 abbrev pub ReadQuotable : (Bor (List ℕ) → Option (ℕ × Bor (List ℕ)) → Type 0) → List ℕ → Option (ℕ × Bor (List ℕ)) → Type 0
 ReadQuotable Call text r = (f : List ℕ → Read ℕ) → ((t : Bor (List ℕ)) (q : Option (ℕ × Bor (List ℕ))) → Call t q → read_number q ≡ f t.now) → read_number r ≡ quotable f text
 

@@ -11,7 +11,7 @@ mod rows;
 use std::error::Error;
 use std::fmt;
 
-// Why a text is not imported: its first bad row, the heading being row 1, or a buffer that is shorter than the sheet's tape. A text may have more rows than a byte counts.
+// Why a text is not imported: its first bad row, the heading being row 1, or a buffer that is shorter than the sheet's tape.
 #[derive(Clone, Copy, Debug, PartialEq, Eq)]
 pub enum ImportError {
     BadRow(usize),

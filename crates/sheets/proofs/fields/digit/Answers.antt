@@ -1,6 +1,5 @@
 -- `fields::digit` meets its contract: the bytes from 48 to 57 are the digits.
 -- Assumes nothing.
-use native.Mathlib.Omega.{arith}
 use Rattle.sheets.proofs.FieldLaws.{no_digit_in, no_digit_first}
 use Rattle.sheets.proofs.fields.digit.Goals as goal
 

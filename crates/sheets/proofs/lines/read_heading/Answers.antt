@@ -1,8 +1,5 @@
 -- `lines::read_heading` meets its contract: one law for each way out.
 -- Assumes nothing.
-use mathlib.Core.Path.{ap, sym, ◌∙◌}
-use lib.Dec.{eqb}
-use lib.ListN.{length}
 use Rattle.sheets.specs.Working.{read_as, read_end}
 use Rattle.sheets.proofs.ColumnLaws.{heading_no, heading_empty, heading_open, heading_read}
 use Rattle.sheets.proofs.lines.read_heading.Goals as goal

@@ -2,11 +2,8 @@
 -- Assumes nothing.
 use native.Mathlib.Omega.{arith}
 use Rattle.sheets.specs.Working.{read_as}
-use Rattle.sheets.proofs.LineLaws.{marking_start, marking_no, marking_next, marking_done}
+use Rattle.sheets.proofs.LineLaws.{marking_no, marking_next, marking_done}
 use Rattle.sheets.proofs.lines.read_marks.Goals as goal
-
-pub loop-column-init : goal.loop-column-init
-loop-column-init c = marking_start _ _ c.empty-set.ensures
 
 pub returns-in_err-mark : goal.returns-in_err-mark
 unfolding read_as

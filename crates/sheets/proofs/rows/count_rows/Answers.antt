@@ -1,12 +1,8 @@
 -- `rows::count_rows` meets its contract: the rows counted, with those that are left, make up the whole.
 -- Assumes nothing.
-use native.Mathlib.Omega.{arith}
 use Rattle.sheets.specs.Working.{read_as}
-use Rattle.sheets.proofs.RowLaws.{counting_start, counting_bad, counting_next, counting_done, row_falls}
+use Rattle.sheets.proofs.RowLaws.{counting_bad, counting_next, counting_done, row_falls}
 use Rattle.sheets.proofs.rows.count_rows.Goals as goal
-
-pub loop-left-init : goal.loop-left-init
-loop-left-init c = counting_start _ _
 
 pub returns-in_default : goal.returns-in_default
 unfolding read_as

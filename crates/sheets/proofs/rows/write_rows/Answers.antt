@@ -12,10 +12,6 @@ pub slice_bounds-write_add_by_privileges-count : goal.slice_bounds-write_add_by_
 unfolding read_as
 slice_bounds-write_add_by_privileges-count c = let o = taping_room c.loop-row.invariant c.in-Some.ensures in omega arith
 
-pub slice_bounds-write_add_by_privileges-start : goal.slice_bounds-write_add_by_privileges-start
-unfolding read_as
-slice_bounds-write_add_by_privileges-start c = let o = taping_room c.loop-row.invariant c.in-Some.ensures in omega arith
-
 pub overflow_add-to : goal.overflow_add-to
 unfolding read_as
 overflow_add-to c =
