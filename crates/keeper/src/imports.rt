@@ -1,7 +1,7 @@
 // The exported function that imports a permission sheet.
 ghost use Rattle.keeper.specs.Imports.{ImportPromise};
 
-use sheets::Imported;
+use sheets::ImportError;
 use sheets::importing::import;
 
 // What is added to the place of a refused import, so that it is no length.
@@ -12,9 +12,9 @@ const NOT_IMPORTED: u64 = 9223372036854775808;
 pub extern "C" fn keeper_import(text: &[u8], tape: &mut [u8]) -> u64
     ensures { ImportPromise text.now tape.old result tape.new }
 {
-    let imported = import(text, tape);
-    match imported {
-        Imported::Written(n) => n as u64,
-        Imported::Refused(refusal) => NOT_IMPORTED + refusal.place as u64,
+    match import(text, tape) {
+        Ok(length) => length as u64,
+        Err(ImportError::BadRow(row)) => NOT_IMPORTED + row as u64,
+        Err(ImportError::NoRoom) => NOT_IMPORTED,
     }
 }

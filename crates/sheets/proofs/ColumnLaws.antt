@@ -1,26 +1,19 @@
--- Columns read into an array, one after the other, and the heading: one law for each way out.
+-- Columns read one after the other, and the heading: one law for each way out.
 -- Assumes nothing.
-use mathlib.Core.Bool.{Bool, true, false, cond}
+use mathlib.Core.Bool.{true, false, cond}
 use mathlib.Core.List.{List, [], ◌∷◌, ◌++◌, append_assoc, append-nil}
 use mathlib.Core.Path.{◌≡◌, refl, sym, ap, ◌∙◌}
 use Prim.Native.Nat.{ℕ, suc, ◌+◌, ◌-◌, ◌≤◌, ◌<◌}
 use native.Mathlib.Numerals.{add-one}
 use native.Mathlib.Omega.{arith}
 use lib.ListN.{length, take, drop, set, length-set}
-use lib.Seq.{take-suc-set, length-take-le}
+use lib.Seq.{take-suc-set}
 use lib.Dec.{eqb}
-use borrow.Author.Tests.{eqb-true, eqb-false, ne_eqb}
+use borrow.Author.Tests.{eqb-true, eqb-false}
 use Rattle.graph.specs.Graph.{privilege_count}
 use Rattle.sheets.specs.Rfc.{comma}
-use Rattle.sheets.specs.Parsing.{Read, got, bad, and_then, head, rest, field, ended, fronted, columns, opened, at_end, heading}
-use Rattle.sheets.specs.Working.{read_number, read_end, read_columns, count_of, ColumnsRead}
-use Rattle.sheets.specs.declared.fields.Number as number-enum
-use Rattle.sheets.specs.declared.fields.Number.TheVariants as numbers
-use Rattle.sheets.specs.declared.fields.LineEnd as end-enum
-use Rattle.sheets.specs.declared.fields.LineEnd.TheVariants as ends
-use Rattle.sheets.specs.declared.lines.Columns as columns-enum
-use Rattle.sheets.specs.declared.lines.Columns.TheVariants as column-counts
-use Rattle.sheets.proofs.FieldLaws.{drop-rest}
+use Rattle.sheets.specs.Parsing.{Read, got, bad, and_then, head, field, ended, fronted, columns, opened, at_end, heading}
+use Rattle.sheets.proofs.FieldLaws.{begins, begins-head}
 use Rattle.sheets.proofs.NumberReading.{field_sound}
 use Rattle.sheets.proofs.HeadingReading.{columns_bad, columns_low, columns_next, columns_end}
 
@@ -42,45 +35,37 @@ prefixed_next p n (got l t) = ap (λ (m : List ℕ). got m t) (sym (append_assoc
 
 -- ---- columns
 -- The columns so far stand in the array, and with those that are left they make the whole.
-pub record Gathering (s : List ℕ) (start : ℕ) (array : List ℕ) (count low place : ℕ) : Type 0 where
+pub record Gathering (s array : List ℕ) (count low : ℕ) (t : List ℕ) : Type 0 where
   pub room : length array ≡ privilege_count
   pub below : count ≤ low
   pub top : low ≤ privilege_count
-  pub same : columns privilege_count 0 (rest s start) ≡ prefixed (take count array) (columns (privilege_count - count) low (rest s place))
+  pub same : columns privilege_count 0 s ≡ prefixed (take count array) (columns (privilege_count - count) low t)
 
-pub gathering_start : (s : List ℕ) (start : ℕ) (array : List ℕ) → length array ≡ privilege_count → Gathering s start array 0 0 start
-gathering_start s start array h = record { room = h; below = omega arith; top = omega arith; same = prefixed_none (columns privilege_count 0 (rest s start)) }
+pub gathering_start : (s array : List ℕ) → length array ≡ privilege_count → Gathering s array 0 0 s
+gathering_start s array h = record { room = h; below = omega arith; top = omega arith; same = prefixed_none (columns privilege_count 0 s) }
 
-module _ {s array : List ℕ} {start count low place : ℕ} (g : Gathering s start array count low place) {b : Bool} (p : b ≡ eqb (head (rest s place)) comma) where
-  module _ (c : b ≡ true) (r : number-enum.Number) (e : read_number s r ≡ field privilege_count (rest s (place + 1))) where
-    at_comma : head (rest s place) ≡ comma
-    at_comma = eqb-true (head (rest s place)) comma (sym p ∙ c)
+module _ {s array : List ℕ} {count low : ℕ} {t : List ℕ} (g : Gathering s array count low t) where
+  module _ (c : begins comma t ≡ true) {u : List ℕ} (i : u ≡ drop 1 t) where
+    at_comma : head t ≡ comma
+    at_comma = eqb-true (head t) comma (sym (begins-head comma t (omega arith)) ∙ c)
 
-    behind_comma : field privilege_count (drop 1 (rest s place)) ≡ read_number s r
-    behind_comma = ap (field privilege_count) (drop-rest 1 place s) ∙ sym e
+    pub gathering_no : bad ≡ field privilege_count u → bad ≡ columns privilege_count 0 s
+    unfolding prefixed
+    gathering_no e = sym (g.same ∙ rw (columns_bad low t at_comma (privilege_count - count) (ap (field privilege_count) (sym i) ∙ sym e)))
 
-    no_columns : columns privilege_count 0 (rest s start) ≡ bad → ColumnsRead s (columns privilege_count 0 (rest s start)) array column-counts.Bad
-    unfolding read_columns count_of
-    no_columns z = record { reads = sym z; room = g.room; within = omega arith }
+    module _ {n : ℕ} {v : List ℕ} (e : got n v ≡ field privilege_count u) where
+      found : field privilege_count (drop 1 t) ≡ got n v
+      found = ap (field privilege_count) (sym i) ∙ sym e
 
-    pub gathering_no : r ≡ numbers.Bad → ColumnsRead s (columns privilege_count 0 (rest s start)) array column-counts.Bad
-    unfolding read_number prefixed
-    gathering_no k = no_columns (g.same ∙ rw (columns_bad low (rest s place) at_comma (privilege_count - count) (rw k at behind_comma)))
-
-    module _ {n next : ℕ} (k : r ≡ numbers.Read n next) where
-      found : field privilege_count (drop 1 (rest s place)) ≡ got n (rest s next)
-      unfolding read_number
-      found = rw k at behind_comma
-
-      pub gathering_low : n < low → ColumnsRead s (columns privilege_count 0 (rest s start)) array column-counts.Bad
+      pub gathering_low : n < low → bad ≡ columns privilege_count 0 s
       unfolding prefixed
-      gathering_low z = no_columns (g.same ∙ rw (columns_low low (rest s place) at_comma (privilege_count - count) found z))
+      gathering_low z = sym (g.same ∙ rw (columns_low low t at_comma (privilege_count - count) found z))
 
       -- A column that is read is a privilege, so that there is room for it.
       pub gathering_lt : n < privilege_count
-      gathering_lt = (field_sound privilege_count (drop 1 (rest s place)) found).2
+      gathering_lt = (field_sound privilege_count (drop 1 t) found).2
 
-      pub gathering_next : low ≤ n → Gathering s start (set array count n) (count + 1) (n + 1) next
+      pub gathering_next : low ≤ n → Gathering s (set array count n) (count + 1) (n + 1) v
       gathering_next z =
           let l = gathering_lt in
           let b = g.below in
@@ -92,54 +77,40 @@ module _ {s array : List ℕ} {start count low place : ℕ} (g : Gathering s sta
             top = omega arith;
             same =
                 g.same
-                ∙ rw (a, columns_next low (rest s place) at_comma (privilege_count - (count + 1)) found z, add-one count, take-suc-set array count n (omega arith), add-one n)
-                (rw (← add-one count) (prefixed_next (take count array) n (columns (privilege_count - (count + 1)) (suc n) (rest s next))));
+                ∙ rw (a, columns_next low t at_comma (privilege_count - (count + 1)) found z, add-one count, take-suc-set array count n (omega arith), add-one n)
+                (rw (← add-one count) (prefixed_next (take count array) n (columns (privilege_count - (count + 1)) (suc n) v)));
           }
 
-  pub gathering_done : b ≡ false → ColumnsRead s (columns privilege_count 0 (rest s start)) array (column-counts.Read count place)
-  unfolding read_columns prefixed count_of
-  gathering_done h = record {
-    reads = sym (g.same ∙ rw (columns_end low (rest s place) (privilege_count - count) (eqb-false (head (rest s place)) comma (sym p ∙ h)), append-nil (take count array)));
-    room = g.room;
-    within = let b = g.below in let t = g.top in omega arith;
-  }
+  pub gathering_done : begins comma t ≡ false → got (take count array) t ≡ columns privilege_count 0 s
+  unfolding prefixed
+  gathering_done h =
+      let p = eqb-false (head t) comma (sym (begins-head comma t (omega arith)) ∙ h) in
+      sym (g.same ∙ rw (columns_end low t (privilege_count - count) p, append-nil (take count array)))
 
 -- ---- the heading
-module _ (s array : List ℕ) (at : ℕ) (o : rest s at ≡ opened s) (r : columns-enum.Columns) (d : ColumnsRead s (columns privilege_count 0 (rest s at)) array r) where
-  heading_is : heading s ≡ and_then (read_columns s array r) (λ cs t. cond (eqb (length cs) 0) bad (at_end cs t))
+module _ (s : List ℕ) {u : List ℕ} (o : u ≡ opened s) where
+  heading_is : heading s ≡ and_then (columns privilege_count 0 u) (λ cs t. cond (eqb (length cs) 0) bad (at_end cs t))
   unfolding heading
-  heading_is = rw (sym o, sym d.reads)
+  heading_is = rw (sym o)
 
-  no_heading : heading s ≡ bad → ColumnsRead s (heading s) array column-counts.Bad
-  unfolding read_columns count_of
-  no_heading e = record { reads = sym e; room = d.room; within = omega arith }
+  pub heading_no : bad ≡ columns privilege_count 0 u → bad ≡ heading s
+  unfolding and_then
+  heading_no e = rw (heading_is, sym e)
 
-  pub heading_no : r ≡ column-counts.Bad → ColumnsRead s (heading s) array column-counts.Bad
-  unfolding read_columns and_then
-  heading_no k = no_heading (rw (heading_is, k))
+  module _ {cs t : List ℕ} (e : got cs t ≡ columns privilege_count 0 u) where
+    pub heading_empty : true ≡ eqb (length cs) 0 → bad ≡ heading s
+    unfolding and_then
+    heading_empty z = rw (heading_is, sym e, sym z)
 
-  module _ {count next : ℕ} (k : r ≡ column-counts.Read count next) where
-    pub heading_empty : count ≡ 0 → ColumnsRead s (heading s) array column-counts.Bad
-    unfolding read_columns and_then
-    heading_empty z = no_heading (rw (heading_is, k, z))
+    module _ (z : false ≡ eqb (length cs) 0) where
+      heading_end : heading s ≡ at_end cs t
+      unfolding and_then
+      heading_end = rw (heading_is, sym e, sym z)
 
-    module _ (z : count ≡ 0 → ⊥) (q : end-enum.LineEnd) (e : read_end s q ≡ ended (rest s next)) where
-      inside : count ≤ privilege_count
-      unfolding count_of
-      inside = rw k at d.within
+      pub heading_open : bad ≡ ended t → bad ≡ heading s
+      unfolding and_then at_end
+      heading_open p = rw (heading_end, sym p)
 
-      heading_end : heading s ≡ and_then (read_end s q) (λ y t. got (take count array) t)
-      unfolding read_columns and_then at_end
-      heading_end =
-          let w = inside in
-          let o = d.room in
-          let l = length-take-le count array (omega arith) in
-          rw (heading_is, k, ne_eqb (length (take count array)) 0 (λ y. z (sym l ∙ y)), e)
-
-      pub heading_open : q ≡ ends.Bad → ColumnsRead s (heading s) array column-counts.Bad
-      unfolding read_end and_then
-      heading_open h = no_heading (rw (heading_end, h))
-
-      pub heading_read : {end : ℕ} → q ≡ ends.At end → ColumnsRead s (heading s) array (column-counts.Read count end)
-      unfolding read_end and_then read_columns count_of
-      heading_read h = record { reads = sym (rw (heading_end, h)); room = d.room; within = inside }
+      pub heading_read : {v : List ℕ} → got tt v ≡ ended t → got cs v ≡ heading s
+      unfolding and_then at_end
+      heading_read p = rw (heading_end, sym p)

@@ -2,18 +2,21 @@
 -- Assumes nothing.
 use mathlib.Core.List.{List, ◌++◌, map}
 use mathlib.Core.Logic.{◌⊎◌, inl, inr}
-use mathlib.Core.Path.{◌≡◌, refl, sym, ap, ◌∙◌}
+use mathlib.Core.Path.{◌≡◌, sym, ap, ◌∙◌}
 use Prim.Native.Nat.{ℕ, ◌<◌, ◌≤◌}
+use native.Mathlib.Decide.{dec_lt}
 use native.Mathlib.Omega.{arith}
 use lib.ListN.{length, take, drop}
+use borrow.Author.Tests.{le-leb}
 use lib.Seq.{take-append_seam, drop-append_seam}
+use Rattle.std.specs.Prelude.{Result, Ok, Err}
 use Rattle.lists.specs.Runs.{Chain, run}
 use Rattle.lists.proofs.Runs.{chain_runs}
 use Rattle.seats.specs.Tape.{records}
 use Rattle.seats.specs.Demands.{One}
 use Rattle.seats.specs.Reading.{read_answer}
 use Rattle.seats.specs.declared.Answer.{Answer}
-use Rattle.seats.specs.Bytes.{fill}
+use Rattle.seats.specs.Bytes.{written, fill}
 use Rattle.seats.proofs.Written.{unfilled}
 use Rattle.sittings.specs.Records.{step}
 use Rattle.sittings.specs.Promises.{StepPromise}
@@ -26,39 +29,39 @@ use Rattle.sheets.specs.Importing as importing
 use Rattle.sheets.specs.Reading.{read_imported}
 use Rattle.sheets.specs.Promises.{ImportPromise}
 use Rattle.sheets.specs.Demands.{read_left, DemandOne, DemandTwo, DemandThree, Demands}
-use Rattle.sheets.specs.declared.Imported.{Imported}
-use Rattle.sheets.specs.declared.Imported.TheVariants as imports
+use Rattle.sheets.specs.declared.ImportError.{ImportError}
+use Rattle.sheets.specs.declared.ImportError.TheVariants.{BadRow, NoRoom}
 use Rattle.sheets.proofs.Spelling.{one_spelt, spelt_or_fails, one-row, rows_bound}
 use Rattle.sheets.proofs.Outcomes.{no_imported, same_refusal, same_length, bad_text, no_room, has_room, outcome, one_outcome}
 use Rattle.sheets.proofs.TapeMeaning.{tape_length, tape_bytes, tape_decodes, tape_played}
 
 -- ---- an answer there is
-write_imported : importing.Imported → Imported
-write_imported (imported n) = imports.Written n
-write_imported (refused n p) = imports.Refused (record { number = n; place = p })
+abbrev Answered : List ℕ → List ℕ → Type 0
+Answered text buffer = (r : Result ℕ ImportError) × (left : List ℕ) × ImportPromise text buffer r left
 
-read_written : (a : importing.Imported) → read_imported (write_imported a) ≡ a
-unfolding read_imported write_imported
-read_written (imported n) = refl
-read_written (refused n p) = refl
-
-some_outcome : (text buffer : List ℕ) → (a : importing.Imported) × (left : List ℕ) × Imports text buffer a left
+some_outcome : (text buffer : List ℕ) → Answered text buffer
+unfolding read_imported filled fill
 some_outcome text buffer = elim (spelt_or_fails text) [
-  | inl p ↦ (let f = fill 33 (tape_of p.0) buffer in (filled f.0, f.1, spelt p.1 refl))
-  | inr p ↦ (refused 32 p.0, buffer, fails p.1)
+  | inl p ↦ elim (dec_lt (length buffer) (length (tape_of p.0))) [
+    | yes l ↦ (Err NoRoom, buffer, spelt p.1 (unfilled 33 buffer (tape_of p.0) l))
+    | no d ↦
+        (let k : length (tape_of p.0) ≤ length buffer = omega (arith, d) in
+        (Ok (length (tape_of p.0)), tape_of p.0 ++ drop (length (tape_of p.0)) buffer, spelt {a = written (length (tape_of p.0))} p.1 (rw (le-leb (length (tape_of p.0)) (length buffer) k))))
+  ]
+  | inr p ↦ (Err (BadRow p.0), buffer, fails p.1)
 ]
 
 answered : (text buffer : List ℕ) → One read_left (λ z. ImportPromise text buffer z.0 z.1)
 answered text buffer =
-    let (a, left, i) = some_outcome text buffer in
+    let (r, left, i) = some_outcome text buffer in
     record {
-      some = (write_imported a, left);
-      kept = rw (read_written a) i;
-      alike = λ z p. one_outcome p (rw (read_written a) i);
+      some = (r, left);
+      kept = i;
+      alike = λ z p. one_outcome p i;
     }
 
 -- ---- demand 1
-refusal : (text buffer left : List ℕ) (r : Imported) (n p : ℕ) → ImportPromise text buffer r left → read_imported r ≡ refused n p → (((n ≡ 32) × Fails text p) ⊎ ((n ≡ 33) × (p ≡ 0))) × (left ≡ buffer)
+refusal : (text buffer left : List ℕ) (r : Result ℕ ImportError) (n p : ℕ) → ImportPromise text buffer r left → read_imported r ≡ refused n p → (((n ≡ 32) × Fails text p) ⊎ ((n ≡ 33) × (p ≡ 0))) × (left ≡ buffer)
 refusal text buffer left r n p i e = elim (outcome i) [
   | bad_text row f q k ↦ (let s = same_refusal (sym q ∙ e) in (inl (sym s.0, rw (sym s.1) f), k))
   | no_room _ _ _ q k ↦ (let s = same_refusal (sym q ∙ e) in (inr (sym s.0, sym s.1), k))
@@ -79,14 +82,14 @@ demand_one = record {
 differ : {p q : ℕ} → refused 32 p ≡ refused 33 q → ⊥
 differ e = let z = (same_refusal e).0 in omega arith
 
-text_refused : (text buffer left : List ℕ) (r : Imported) (row : ℕ) → ImportPromise text buffer r left → read_imported r ≡ refused 32 row → Fails text row
+text_refused : (text buffer left : List ℕ) (r : Result ℕ ImportError) (row : ℕ) → ImportPromise text buffer r left → read_imported r ≡ refused 32 row → Fails text row
 text_refused text buffer left r row i e = elim (outcome i) [
   | bad_text n f q _ ↦ rw (same_refusal (sym e ∙ q)).1 f
   | no_room _ _ _ q _ ↦ absurd (differ (sym e ∙ q))
   | has_room _ _ _ q _ ↦ absurd (no_imported (sym q ∙ e))
 ]
 
-tape_refused : (text buffer left : List ℕ) (r : Imported) (p : ℕ) → ImportPromise text buffer r left → read_imported r ≡ refused 33 p → (p ≡ 0) × (s : Sheet) × Spells text s × (length buffer < length (tape_of s))
+tape_refused : (text buffer left : List ℕ) (r : Result ℕ ImportError) (p : ℕ) → ImportPromise text buffer r left → read_imported r ≡ refused 33 p → (p ≡ 0) × (s : Sheet) × Spells text s × (length buffer < length (tape_of s))
 tape_refused text buffer left r p i e = elim (outcome i) [
   | bad_text _ _ q _ ↦ absurd (differ (sym q ∙ e))
   | no_room s t l q _ ↦ ((same_refusal (sym e ∙ q)).1, s, t, l)
@@ -96,11 +99,11 @@ tape_refused text buffer left r p i e = elim (outcome i) [
 same_answer : {text buffer x y : List ℕ} {a b : importing.Imported} → Imports text buffer a x → Imports text buffer b y → a ≡ b
 same_answer i j = ap (λ (z : importing.Imported × List ℕ). z.0) (one_outcome i j)
 
-refuses_tape : (text buffer left : List ℕ) (r : Imported) (p : ℕ) → ImportPromise text buffer r left → (p ≡ 0) × (s : Sheet) × Spells text s × (length buffer < length (tape_of s)) → read_imported r ≡ refused 33 p
+refuses_tape : (text buffer left : List ℕ) (r : Result ℕ ImportError) (p : ℕ) → ImportPromise text buffer r left → (p ≡ 0) × (s : Sheet) × Spells text s × (length buffer < length (tape_of s)) → read_imported r ≡ refused 33 p
 unfolding filled
 refuses_tape text buffer left r p i (z, s, t, l) = same_answer i (spelt t (unfilled 33 buffer (tape_of s) l)) ∙ ap (refused 33) (sym z)
 
-accepted : (text buffer left : List ℕ) (r : Imported) (s : Sheet) → ImportPromise text buffer r left → Spells text s → length (tape_of s) ≤ length buffer
+accepted : (text buffer left : List ℕ) (r : Result ℕ ImportError) (s : Sheet) → ImportPromise text buffer r left → Spells text s → length (tape_of s) ≤ length buffer
     → (read_imported r ≡ imported (length (tape_of s))) × (take (length (tape_of s)) left ≡ tape_of s) × (drop (length (tape_of s)) left ≡ drop (length (tape_of s)) buffer)
 accepted text buffer left r s i t h = elim (outcome i) [
   | bad_text _ f _ _ ↦ absurd (f.unspelt s t)
@@ -111,7 +114,7 @@ accepted text buffer left r s i t h = elim (outcome i) [
       (q ∙ ap (λ (x : Sheet). imported (length (tape_of x))) e, ap (take (length (tape_of s))) k ∙ take-append_seam (tape_of s) _, ap (drop (length (tape_of s))) k ∙ drop-append_seam (tape_of s) _))
 ]
 
-spelling : (text buffer left : List ℕ) (r : Imported) (n : ℕ) → ImportPromise text buffer r left → read_imported r ≡ imported n → (s : Sheet) × Spells text s × (n ≡ length (tape_of s)) × (n ≤ length buffer)
+spelling : (text buffer left : List ℕ) (r : Result ℕ ImportError) (n : ℕ) → ImportPromise text buffer r left → read_imported r ≡ imported n → (s : Sheet) × Spells text s × (n ≡ length (tape_of s)) × (n ≤ length buffer)
 spelling text buffer left r n i e = elim (outcome i) [
   | bad_text _ _ q _ ↦ absurd (no_imported (sym e ∙ q))
   | no_room _ _ _ q _ ↦ absurd (no_imported (sym e ∙ q))

@@ -1,30 +1,22 @@
--- Rows read at a place, the marks one after the other: one law for each way out.
+-- Rows, the marks one after the other: one law for each way out.
 -- Assumes nothing.
 use mathlib.Core.Bool.{Bool}
 use mathlib.Core.List.{List, [], ◌∷◌}
-use mathlib.Core.Path.{◌≡◌, refl, sym, ap, ap₂, ◌∙◌}
+use mathlib.Core.Path.{◌≡◌, refl, sym, ap, ◌∙◌}
 use Prim.Native.Nat.{ℕ, suc, ◌+◌, ◌-◌, ◌≤◌, ◌<◌}
 use native.Mathlib.Numerals.{add-one}
 use native.Mathlib.Omega.{arith}
-use lib.ListN.{length, get_or, take, drop, drop_of_length-le}
-use lib.Seq.{drop-cons, get_or-take, length-take-le}
+use lib.ListN.{length, get_or, drop, drop_of_length-le}
+use lib.Seq.{drop-cons}
 use lib.Dec.{eqb}
 use lib.Bits.{or_comm}
 use Rattle.sets.specs.Sets.{empty, union}
 use Rattle.sets.proofs.Laws.{union-empty}
 use Rattle.graph.specs.Graph.{role_count}
-use Rattle.graph.specs.Reading.{read_set}
-use Rattle.graph.specs.declared.PrivilegeSet as privilege-set-struct
 use Rattle.seats.proofs.EntryReading.{union_assoc}
 use Rattle.sheets.specs.Sheets.{Row}
-use Rattle.sheets.specs.Parsing.{Read, got, bad, and_then, rest, field, further, ended, fronted, at_end, marks, row}
-use Rattle.sheets.specs.Working.{read_number, read_end, read_marks, column_set, known_set, added, meant}
-use Rattle.sheets.specs.declared.fields.Number as number-enum
-use Rattle.sheets.specs.declared.fields.Number.TheVariants as numbers
-use Rattle.sheets.specs.declared.fields.LineEnd as end-enum
-use Rattle.sheets.specs.declared.fields.LineEnd.TheVariants as ends
-use Rattle.sheets.specs.declared.lines.Marks as marks-enum
-use Rattle.sheets.specs.declared.lines.Marks.TheVariants as markings
+use Rattle.sheets.specs.Parsing.{Read, got, bad, and_then, field, further, ended, fronted, at_end, marks, row}
+use Rattle.sheets.specs.Working.{column_set, known_set, added, meant}
 
 -- ---- sets
 union_left : (x : ℕ) → union empty x ≡ x
@@ -33,12 +25,9 @@ union_left x = or_comm 0 x ∙ union-empty x
 
 -- ---- marks
 -- The set so far, with the marks that are left, makes the whole.
-pub record Marking (s cols : List ℕ) (count start set place i : ℕ) : Type 0 where
-  pub within : i ≤ count
-  pub same : added (take count cols) empty (marks count (rest s start)) ≡ added (drop i (take count cols)) set (marks (count - i) (rest s place))
-
-pub marking_start : (s cols : List ℕ) (count start : ℕ) {set : ℕ} → set ≡ empty → Marking s cols count start set start 0
-marking_start s cols count start e = record { within = omega arith; same = let d : count - 0 ≡ count = omega arith in rw (d, e) }
+pub record Marking (s cols : List ℕ) (i set : ℕ) (t : List ℕ) : Type 0 where
+  pub within : i ≤ length cols
+  pub same : added cols empty (marks (length cols) s) ≡ added (drop i cols) set (marks (length cols - i) t)
 
 -- One mark more, in front of those behind it.
 added-fronted : (c : ℕ) (cs : List ℕ) (set : ℕ) (b : Bool) (r : Read (List Bool)) → added (c ∷ cs) set (fronted b r) ≡ added cs (union set (column_set c b)) r
@@ -46,34 +35,30 @@ unfolding added fronted known_set
 added-fronted c cs set b bad = refl
 added-fronted c cs set b (got m t) = ap (λ (x : ℕ). got x t) (sym (union_assoc set (column_set c b) (known_set cs m)))
 
-next_column : (cols : List ℕ) (count i : ℕ) → count ≤ length cols → i < count → drop i (take count cols) ≡ get_or cols i 0 ∷ drop (i + 1) (take count cols)
-next_column cols count i h k =
-    let l = length-take-le count cols h in
-    drop-cons (take count cols) i 0 (omega arith) ∙ ap₂ (λ (x j : ℕ). x ∷ drop j (take count cols)) (get_or-take count cols i 0 k) (sym (add-one i))
-
-module _ {s cols : List ℕ} {count start set place i : ℕ} (m : Marking s cols count start set place i) where
-  module _ (h : i < count) (r : number-enum.Number) (e : read_number s r ≡ further (rest s place)) where
-    step : added (take count cols) empty (marks count (rest s start)) ≡ added (drop i (take count cols)) set (and_then (read_number s r) (λ n t. fronted (eqb n 1) (marks (count - (i + 1)) t)))
+module _ {s cols : List ℕ} {i set : ℕ} {t : List ℕ} (m : Marking s cols i set t) where
+  module _ (h : i < length cols) where
+    step : added cols empty (marks (length cols) s) ≡ added (drop i cols) set (and_then (further t) (λ n u. fronted (eqb n 1) (marks (length cols - (i + 1)) u)))
     unfolding marks
-    step = let a : count - i ≡ suc (count - (i + 1)) = omega arith in m.same ∙ rw (a, sym e)
+    step = let a : length cols - i ≡ suc (length cols - (i + 1)) = omega arith in m.same ∙ rw a
 
-    pub marking_no : r ≡ numbers.Bad → bad ≡ added (take count cols) empty (marks count (rest s start))
-    unfolding read_number and_then added
-    marking_no k = rw (step, k)
+    pub marking_no : bad ≡ further t → bad ≡ added cols empty (marks (length cols) s)
+    unfolding and_then added
+    marking_no e = rw (step, sym e)
 
-    pub marking_next : {n next sum : ℕ} → r ≡ numbers.Read n next → count ≤ length cols → sum ≡ union set (column_set (get_or cols i 0) (eqb n 1)) → Marking s cols count start sum next (i + 1)
-    unfolding read_number and_then
-    marking_next {n} {next} {sum} k w u = record {
-      within = omega arith;
-      same = step ∙ rw (k, next_column cols count i w h, u) (added-fronted (get_or cols i 0) (drop (i + 1) (take count cols)) set (eqb n 1) (marks (count - (i + 1)) (rest s next)));
-    }
+    pub marking_next : {n sum : ℕ} {u : List ℕ} → got n u ≡ further t → sum ≡ union set (column_set (get_or cols i 0) (eqb n 1)) → Marking s cols (i + 1) sum u
+    unfolding and_then
+    marking_next {n} {sum} {u} e p =
+        let d : drop i cols ≡ get_or cols i 0 ∷ drop (i + 1) cols = rw (add-one i) (drop-cons cols i 0 h) in
+        record {
+          within = omega arith;
+          same = step ∙ rw (sym e, d, p) (added-fronted (get_or cols i 0) (drop (i + 1) cols) set (eqb n 1) (marks (length cols - (i + 1)) u));
+        }
 
-  pub marking_done : count ≤ i → count ≤ length cols → got set (rest s place) ≡ added (take count cols) empty (marks count (rest s start))
+  pub marking_done : length cols ≤ i → got set t ≡ added cols empty (marks (length cols) s)
   unfolding marks added known_set
-  marking_done h w =
-      let a : count - i ≡ 0 = omega arith in
-      let l = length-take-le count cols w in
-      let d : drop i (take count cols) ≡ [] = drop_of_length-le (take count cols) {i = i} (omega arith) in
+  marking_done h =
+      let a : length cols - i ≡ 0 = omega arith in
+      let d : drop i cols ≡ [] = drop_of_length-le cols {i = i} h in
       sym (m.same ∙ rw (a, d, union-empty set))
 
 -- ---- a row
@@ -91,29 +76,25 @@ unfolding added and_then at_end meant with_role
 meant-marks cs n bad = refl
 meant-marks cs n (got m u) = rw (union_left (known_set cs m)) (meant-end cs (record { role = n; marks = m }) (ended u))
 
-module _ (s cs : List ℕ) (k at : ℕ) (r : number-enum.Number) (e : read_number s r ≡ field role_count (rest s at)) where
-  pub row_no : r ≡ numbers.Bad → bad ≡ meant cs (row k (rest s at))
-  unfolding row read_number and_then meant
-  row_no f = rw (sym e, f)
+module _ (cs : List ℕ) (k : ℕ) (s : List ℕ) where
+  pub row_no : bad ≡ field role_count s → bad ≡ meant cs (row k s)
+  unfolding row and_then meant
+  row_no e = rw (sym e)
 
-  module _ {n next : ℕ} (f : r ≡ numbers.Read n next) (q : marks-enum.Marks) (g : read_marks s q ≡ added cs empty (marks k (rest s next))) where
-    row_is : meant cs (row k (rest s at)) ≡ and_then (read_marks s q) (with_role n)
-    unfolding row read_number and_then
-    row_is = rw (sym e, f, g) (meant-marks cs n (marks k (rest s next)))
+  module _ {n : ℕ} {t : List ℕ} (e : got n t ≡ field role_count s) where
+    row_is : meant cs (row k s) ≡ and_then (added cs empty (marks k t)) (with_role n)
+    unfolding row and_then
+    row_is = rw (sym e) (meant-marks cs n (marks k t))
 
-    pub row_unmarked : q ≡ markings.Bad → bad ≡ meant cs (row k (rest s at))
-    unfolding read_marks and_then
-    row_unmarked h = rw (row_is, h)
+    pub row_unmarked : bad ≡ added cs empty (marks k t) → bad ≡ meant cs (row k s)
+    unfolding and_then
+    row_unmarked p = rw (row_is, sym p)
 
-    module _ {set : privilege-set-struct.PrivilegeSet} {behind : ℕ} (h : q ≡ markings.Read set behind) (d : end-enum.LineEnd) (i : read_end s d ≡ ended (rest s behind)) where
-      row_end : meant cs (row k (rest s at)) ≡ and_then (read_end s d) (λ z t. got (n, read_set set) t)
-      unfolding read_marks and_then with_role at_end
-      row_end = rw (row_is, h, i)
+    module _ {set : ℕ} {u : List ℕ} (p : got set u ≡ added cs empty (marks k t)) where
+      pub row_open : bad ≡ ended u → bad ≡ meant cs (row k s)
+      unfolding and_then with_role at_end
+      row_open q = rw (row_is, sym p, sym q)
 
-      pub row_open : d ≡ ends.Bad → bad ≡ meant cs (row k (rest s at))
-      unfolding read_end and_then
-      row_open j = rw (row_end, j)
-
-      pub row_read : {end : ℕ} → d ≡ ends.At end → got (n, read_set set) (rest s end) ≡ meant cs (row k (rest s at))
-      unfolding read_end and_then
-      row_read j = rw (row_end, j)
+      pub row_read : {v : List ℕ} → got tt v ≡ ended u → got (n, set) v ≡ meant cs (row k s)
+      unfolding and_then with_role at_end
+      row_read q = rw (row_is, sym p, sym q)

@@ -19,7 +19,7 @@ use Rattle.sheets.proofs.ReadResults.{passed, by_test, in_steps, begins_with}
 use Rattle.sheets.proofs.DigitFields.{digits_are, digits_first, digits-more, plain-field, quoted_field, either_field}
 
 -- ---- digits
-value-digit : (a : ℕ) → a < 10 → value (48 + a) ≡ a
+pub value-digit : (a : ℕ) → a < 10 → value (48 + a) ≡ a
 unfolding value
 value-digit a h = rw (le-leb 48 (48 + a) (omega arith), le-leb (48 + a) 57 (omega arith)) (omega arith)
 

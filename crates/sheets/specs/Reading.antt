@@ -1,9 +1,11 @@
 -- How the importer's answer is read as the paper's.
+use Rattle.std.specs.Prelude.{Result, Ok, Err, ℕ}
 use Rattle.sheets.specs.Importing.{Imported, imported, refused}
-use Rattle.sheets.specs.declared.Imported as imported-enum
-use Rattle.sheets.specs.declared.Imported.TheVariants as imports
+use Rattle.sheets.specs.declared.ImportError.{ImportError}
+use Rattle.sheets.specs.declared.ImportError.TheVariants.{BadRow, NoRoom}
 
--- The length written, or a refusal's number and place.
-unfoldable pub read_imported : imported-enum.Imported → Imported
-read_imported (imports.Written n) = imported n
-read_imported (imports.Refused r) = refused r.number r.place
+-- The length written; refusal 32 at a bad row, or refusal 33 at place 0.
+unfoldable pub read_imported : Result ℕ ImportError → Imported
+read_imported (Ok n) = imported n
+read_imported (Err (BadRow row)) = refused 32 row
+read_imported (Err NoRoom) = refused 33 0

@@ -1,69 +1,55 @@
--- What the contracts of private functions speak of: what they read, with the text in which their places are, and rows by what is known of their columns.
-use Rattle.std.specs.Prelude.{Bool, true, false, List, [], ◌∷◌, map, ◌≡◌, ℕ, ◌≤◌, length, take, ltb}
+-- What the contracts of private functions speak of: what they read, and rows by what is known of their columns.
+use Rattle.std.specs.Prelude.{Bool, cond, List, [], ◌∷◌, map, Option, Some, None, Result, Ok, Err, ◌≡◌, ℕ, ◌+◌, length, take, ltb}
+use Rattle.std.specs.Borrow.{Bor}
 use Rattle.sets.specs.Sets.{empty, single, union, when}
 use Rattle.graph.specs.Graph.{privilege_count}
 use Rattle.graph.specs.Reading.{read_set}
+use Rattle.graph.specs.declared.PrivilegeSet as privilege-set-struct
 use Rattle.seats.specs.Tape.{joined}
 use Rattle.sheets.specs.Sheets.{Row, record_with}
-use Rattle.sheets.specs.Parsing.{Read, got, bad, rest}
-use Rattle.sheets.specs.declared.fields.Number as number-enum
-use Rattle.sheets.specs.declared.fields.Number.TheVariants as numbers
-use Rattle.sheets.specs.declared.fields.LineEnd as end-enum
-use Rattle.sheets.specs.declared.fields.LineEnd.TheVariants as ends
-use Rattle.sheets.specs.declared.lines.Columns as columns-enum
-use Rattle.sheets.specs.declared.lines.Columns.TheVariants as column-counts
-use Rattle.sheets.specs.declared.lines.Marks as marks-enum
-use Rattle.sheets.specs.declared.lines.Marks.TheVariants as markings
-use Rattle.sheets.specs.declared.lines.Line as line-enum
-use Rattle.sheets.specs.declared.lines.Line.TheVariants as lines
-use Rattle.sheets.specs.declared.rows.Rows as rows-enum
-use Rattle.sheets.specs.declared.rows.Rows.TheVariants as row_counts
+use Rattle.sheets.specs.Parsing.{Read, got, bad, quotable}
+use Rattle.sheets.specs.declared.ImportError.{ImportError}
+use Rattle.sheets.specs.declared.ImportError.TheVariants.{BadRow}
+use Rattle.sheets.specs.declared.columns.Columns as columns-struct
+use Rattle.sheets.specs.declared.lines.Row as row-struct
+
+-- What was read with the text behind it, or nothing, where f says what the code's value stands for.
+unfoldable pub read_as : {V X : Type 0} → (V → X) → Option (V × Bor (List ℕ)) → Read X
+read_as f None = bad
+read_as f (Some r) = got (f r.0) r.1.now
 
 -- A number read.
-unfoldable pub read_number : List ℕ → number-enum.Number → Read ℕ
-read_number text (numbers.Read n next) = got n (rest text next)
-read_number text numbers.Bad = bad
+abbrev pub read_number : Option (ℕ × Bor (List ℕ)) → Read ℕ
+read_number = read_as (λ n. n)
+
+-- Where each call of a function reads what f reads, r is what f reads plain or between quotes.
+abbrev pub ReadQuotable : (Bor (List ℕ) → Option (ℕ × Bor (List ℕ)) → Type 0) → List ℕ → Option (ℕ × Bor (List ℕ)) → Type 0
+ReadQuotable Call text r = (f : List ℕ → Read ℕ) → ((t : Bor (List ℕ)) (q : Option (ℕ × Bor (List ℕ))) → Call t q → read_number q ≡ f t.now) → read_number r ≡ quotable f text
 
 -- The end of a line read.
-unfoldable pub read_end : List ℕ → end-enum.LineEnd → Read (Unit {0})
-read_end text (ends.At next) = got tt (rest text next)
-read_end text ends.Bad = bad
+unfoldable pub read_end : Option (Bor (List ℕ)) → Read (Unit {0})
+read_end None = bad
+read_end (Some t) = got tt t.now
 
--- So many columns read into an array.
-unfoldable pub read_columns : List ℕ → List ℕ → columns-enum.Columns → Read (List ℕ)
-read_columns text array (column-counts.Read n next) = got (take n array) (rest text next)
-read_columns text array column-counts.Bad = bad
+-- The numbers of columns.
+abbrev pub columns_of : columns-struct.Columns → List ℕ
+columns_of c = take c.count c.array
 
--- How many columns were read.
-unfoldable pub count_of : columns-enum.Columns → ℕ
-count_of (column-counts.Read n next) = n
-count_of column-counts.Bad = 0
-
--- Columns read into an array.
-pub record ColumnsRead (text : List ℕ) (columns : Read (List ℕ)) (array : List ℕ) (r : columns-enum.Columns) : Type 0 where
-  pub reads : read_columns text array r ≡ columns
-  pub room : length array ≡ privilege_count
-  pub within : count_of r ≤ privilege_count
+-- Columns read.
+abbrev pub read_columns : Option (columns-struct.Columns × Bor (List ℕ)) → Read (List ℕ)
+read_columns = read_as columns_of
 
 -- The set of marks read.
-unfoldable pub read_marks : List ℕ → marks-enum.Marks → Read ℕ
-read_marks text (markings.Read set next) = got (read_set set) (rest text next)
-read_marks text markings.Bad = bad
+abbrev pub read_marks : Option (privilege-set-struct.PrivilegeSet × Bor (List ℕ)) → Read ℕ
+read_marks = read_as read_set
 
--- A role and a set read.
-unfoldable pub read_line : List ℕ → line-enum.Line → Read (ℕ × ℕ)
-read_line text (lines.Read role set next) = got (role.0, read_set set) (rest text next)
-read_line text lines.Bad = bad
+-- A row's role and set read.
+abbrev pub read_row : Option (row-struct.Row × Bor (List ℕ)) → Read (ℕ × ℕ)
+read_row = read_as (λ r. (r.role.0, read_set r.set))
 
--- How many rows were found, and whether there is nothing behind them.
-unfoldable pub read_rows : rows-enum.Rows → ℕ × Bool
-read_rows (row_counts.All n) = (n, true)
-read_rows (row_counts.Some n) = (n, false)
-
--- Rows counted in a text of the length.
-pub record Counted (found : List Row × Bool) (size : ℕ) (r : rows-enum.Rows) : Type 0 where
-  pub counts : read_rows r ≡ (length found.0, found.1)
-  pub within : length found.0 ≤ size
+-- How many rows were found, where there is nothing behind them; otherwise the row behind them is bad, the heading being row 1.
+unfoldable pub counted : List Row × Bool → Result ℕ ImportError
+counted found = cond found.1 (Ok (length found.0)) (Err (BadRow (length found.0 + 2)))
 
 -- The privilege of a column, where it is one, if the column is marked.
 abbrev pub column_set : ℕ → Bool → ℕ

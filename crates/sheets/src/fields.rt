@@ -1,164 +1,103 @@
-// Fields of a sheet's text, read at a place: numbers, and the ends of lines.
-ghost use Rattle.std.specs.Prelude.{◌≡◌, true, ◌-◌, ◌≤◌, ◌<◌, min, length, eqb};
-ghost use Rattle.sheets.specs.Rfc.{comma};
-ghost use Rattle.sheets.specs.Parsing.{and_then, head, rest, value, longer, plain, binary, closed, quotable, field, further, opened, ended};
-ghost use Rattle.sheets.specs.Working.{read_number, read_end};
+// Fields at the front of a text, each read with the text behind it: numbers, and the ends of lines.
+ghost use Rattle.std.specs.Prelude.{◌≡◌, ◌+◌, ◌<◌, ◌∷◌, MatchOption};
+ghost use Rattle.sheets.specs.Parsing.{head, value, longer, plain, binary, field, further, opened, ended};
+ghost use Rattle.sheets.specs.Working.{read_number, ReadQuotable, read_end};
 
-// A number that was read, and the place behind it; or no number.
-#[derive(Clone, Copy)]
-pub(crate) enum Number {
-    Read(u8, usize),
-    Bad,
-}
+// What was read off a text's front, with the text behind it; or nothing.
+pub(crate) type Parsed<'a, T> = Option<(T, &'a [u8])>;
 
-// The place behind the end of a line; or no end.
-#[derive(Clone, Copy)]
-pub(crate) enum LineEnd {
-    At(usize),
-    Bad,
-}
-
-// The byte at a place; 0 behind the end.
-fn byte(text: &[u8], at: usize) -> u8
-    ensures { (result ≡ head (rest text.now at)) × (min result 1 ≤ length text.now - at) }
+// The value of the digit at a text's front.
+fn digit(text: &[u8]) -> Parsed<'_, u8>
+    ensures { MatchOption result (value (head text.now) ≡ 10) (λ d. (d.0 < 10) × (text.now ≡ (48 + d.0) ∷ d.1.now)) }
 {
-    if at < text.len() { text[at] } else { 0 }
-}
-
-// Whether a comma stands at a place, which is then a place of the text.
-pub(crate) fn at_comma(text: &[u8], at: usize) -> bool
-    ensures { (result ≡ eqb (head (rest text.now at)) comma) × (result ≡ true → at < length text.now) }
-{
-    byte(text, at) == b','
-}
-
-// The value of the digit at a place; 10 where there is none.
-fn digit(text: &[u8], at: usize) -> u8
-    ensures { (result ≡ value (head (rest text.now at))) × ((result ≤ 10) × (result ≤ 9 → at < length text.now)) }
-{
-    let x = byte(text, at);
-    if x < b'0' {
-        return 10;
+    let (first, behind) = text.split_first()?;
+    if !first.is_ascii_digit() {
+        return None;
     }
-    if b'9' < x { 10 } else { x - b'0' }
+    Some((first - b'0', behind))
 }
 
-// The number below the limit whose first digits are read already, with the digits at the place.
-fn longer(text: &[u8], at: usize, limit: u8, first: u8) -> Number
-    ensures { read_number text.now result ≡ longer limit first (rest text.now at) }
+// The number below the limit whose first digits are read already, with the digits at a text's front.
+fn longer(text: &[u8], limit: u8, first: u8) -> Parsed<'_, u8>
+    ensures { read_number result ≡ longer limit first text.now }
 {
-    let d = digit(text, at);
-    if 9 < d {
-        return Number::Read(first, at);
+    let mut n = first;
+    let mut left = text;
+    while let Some((d, behind)) = digit(left) {
+        let more = 10 * u16::from(n) + u16::from(d);
+        if u16::from(limit) <= more {
+            return None;
+        }
+        n = more as u8;
+        left = behind;
     }
-    let n = 10 * (first as usize) + d as usize;
-    if limit as usize <= n {
-        return Number::Bad;
-    }
-    longer(text, at + 1, limit, n as u8)
+    Some((n, left))
 }
 
 // A number below the limit in base ten, without leading zeros.
-fn plain(text: &[u8], at: usize, limit: u8) -> Number
-    ensures { read_number text.now result ≡ plain limit (rest text.now at) }
+fn plain(text: &[u8], limit: u8) -> Parsed<'_, u8>
+    ensures { read_number result ≡ plain limit text.now }
 {
-    let a = digit(text, at);
-    if 9 < a {
-        return Number::Bad;
+    let (first, behind) = digit(text)?;
+    if limit <= first {
+        return None;
     }
-    if limit <= a {
-        return Number::Bad;
+    if first == 0 {
+        return Some((0, behind));
     }
-    let next = at + 1;
-    if a == 0 {
-        return Number::Read(0, next);
-    }
-    longer(text, next, limit, a)
+    longer(behind, limit, first)
 }
 
 // The digit 0 or 1.
-fn binary(text: &[u8], at: usize) -> Number
-    ensures { read_number text.now result ≡ binary (rest text.now at) }
+fn binary(text: &[u8]) -> Parsed<'_, u8>
+    ensures { read_number result ≡ binary text.now }
 {
-    let d = digit(text, at);
-    if 1 < d {
-        return Number::Bad;
+    let (mark, behind) = digit(text)?;
+    if 1 < mark {
+        return None;
     }
-    Number::Read(d, at + 1)
+    Some((mark, behind))
 }
 
-// A number that was read, where a closing quote stands behind it.
-fn closed(text: &[u8], number: Number) -> Number
-    ensures { read_number text.now result ≡ and_then (read_number text.now number) closed }
+// What a function reads, plain or between quotes.
+fn quotable<'a, F: FnOnce(&'a [u8]) -> Parsed<'a, u8>>(text: &'a [u8], number: F) -> Parsed<'a, u8>
+    requires { F.IsAlwaysCallable number }
+    ensures { ReadQuotable (F.post number) text.now result }
 {
-    match number {
-        Number::Bad => Number::Bad,
-        Number::Read(n, next) => {
-            if byte(text, next) == b'"' {
-                Number::Read(n, next + 1)
-            } else {
-                Number::Bad
-            }
-        }
-    }
+    let Some(inside) = text.strip_prefix(b"\"") else {
+        return number(text);
+    };
+    let (n, behind) = number(inside)?;
+    Some((n, behind.strip_prefix(b"\"")?))
 }
 
 // The field of a number below the limit.
-pub(crate) fn field(text: &[u8], at: usize, limit: u8) -> Number
-    ensures { read_number text.now result ≡ field limit (rest text.now at) }
+pub(crate) fn field(text: &[u8], limit: u8) -> Parsed<'_, u8>
+    ensures { read_number result ≡ field limit text.now }
 {
-    if byte(text, at) != b'"' {
-        return plain(text, at, limit);
-    }
-    closed(text, plain(text, at + 1, limit))
-}
-
-// The field of a mark.
-fn mark(text: &[u8], at: usize) -> Number
-    ensures { read_number text.now result ≡ quotable binary (rest text.now at) }
-{
-    if byte(text, at) != b'"' {
-        return binary(text, at);
-    }
-    closed(text, binary(text, at + 1))
+    quotable(text, |text| plain(text, limit))
 }
 
 // The field of a mark behind a comma.
-pub(crate) fn further(text: &[u8], at: usize) -> Number
-    ensures { read_number text.now result ≡ further (rest text.now at) }
+pub(crate) fn further(text: &[u8]) -> Parsed<'_, u8>
+    ensures { read_number result ≡ further text.now }
 {
-    if byte(text, at) == b',' {
-        mark(text, at + 1)
-    } else {
-        Number::Bad
-    }
+    quotable(text.strip_prefix(b",")?, binary)
 }
 
-// The place behind an empty first field, which may be two quotes.
-pub(crate) fn opened(text: &[u8]) -> usize
-    ensures { rest text.now result ≡ opened text.now }
+// The text behind an empty first field, which may be two quotes.
+pub(crate) fn opened(text: &[u8]) -> &[u8]
+    ensures { result.now ≡ opened text.now }
 {
-    if byte(text, 0) != b'"' {
-        return 0;
-    }
-    if byte(text, 1) != b'"' {
-        return 0;
-    }
-    2
+    text.strip_prefix(b"\"\"").unwrap_or(text)
 }
 
-// The place behind the end of a line, which is the end of the text, or a line end.
-pub(crate) fn ended(text: &[u8], at: usize) -> LineEnd
-    ensures { read_end text.now result ≡ ended (rest text.now at) }
+// The text behind the end of a line, which is the end of the text, or a line end.
+pub(crate) fn ended(text: &[u8]) -> Option<&[u8]>
+    ensures { read_end result ≡ ended text.now }
 {
-    if text.len() <= at {
-        return LineEnd::At(at);
+    if text.is_empty() {
+        return Some(text);
     }
-    if byte(text, at) != b'\r' {
-        return LineEnd::Bad;
-    }
-    if byte(text, at + 1) != b'\n' {
-        return LineEnd::Bad;
-    }
-    LineEnd::At(at + 2)
+    text.strip_prefix(b"\r\n")
 }

@@ -2,21 +2,29 @@
 
 #![tactic(auto)]
 
+mod columns;
 mod fields;
 pub mod importing;
 mod lines;
 mod rows;
 
-// A refusal of the importer's: its number, and its place, which is a row or 0. A text may have more rows than a byte counts.
-#[derive(Clone, Copy)]
-pub struct ImportRefusal {
-    pub number: u8,
-    pub place: usize,
+use std::error::Error;
+use std::fmt;
+
+// Why a text is not imported: its first bad row, the heading being row 1, or a buffer that is shorter than the sheet's tape.
+#[derive(Clone, Copy, Debug, PartialEq, Eq)]
+pub enum ImportError {
+    BadRow(usize),
+    NoRoom,
 }
 
-// What importing answers: the length of the tape written, or a refusal.
-#[derive(Clone, Copy)]
-pub enum Imported {
-    Written(usize),
-    Refused(ImportRefusal),
+impl fmt::Display for ImportError {
+    fn fmt<W: fmt::Write>(&self, f: &mut fmt::Formatter<W>) -> fmt::Result {
+        match self {
+            ImportError::BadRow(row) => write!(f, "row {row} is no row of a sheet"),
+            ImportError::NoRoom => write!(f, "the buffer is shorter than the sheet's tape"),
+        }
+    }
 }
+
+impl Error for ImportError {}

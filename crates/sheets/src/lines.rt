@@ -1,12 +1,13 @@
 // The lines of a sheet's text: its heading, and its rows.
-ghost use Rattle.std.specs.Prelude.{◌≡◌, ◌≤◌, length, take, eqb};
-ghost use Rattle.sets.specs.Sets.{union};
+ghost use Rattle.std.specs.Prelude.{◌≡◌, length, eqb};
+ghost use Rattle.sets.specs.Sets.{empty, union};
 ghost use Rattle.graph.specs.Graph.{privilege_count};
 ghost use Rattle.graph.specs.Reading.{read_set};
-ghost use Rattle.sheets.specs.Parsing.{rest, columns, heading, marks, row};
-ghost use Rattle.sheets.specs.Working.{ColumnsRead, column_set, read_marks, read_line, added, meant};
+ghost use Rattle.sheets.specs.Parsing.{columns, heading, marks, row};
+ghost use Rattle.sheets.specs.Working.{read_columns, column_set, read_marks, read_row, added, meant};
 
-use crate::fields::{LineEnd, Number, at_comma, ended, field, further, opened};
+use crate::columns::Columns;
+use crate::fields::{Parsed, ended, field, further, opened};
 use graph::{Privilege, PrivilegeSet, Role, privileges};
 
 // How many roles and privileges there are.
@@ -14,71 +15,43 @@ const ROLES: u8 = 64;
 
 const PRIVILEGES: u8 = 64;
 
-// How many columns were read, and the place behind them; or no heading.
+// A row: its role, and the set of its marked columns.
 #[derive(Clone, Copy)]
-pub(crate) enum Columns {
-    Read(usize, usize),
-    Bad,
+pub(crate) struct Row {
+    pub(crate) role: Role,
+    pub(crate) set: PrivilegeSet,
 }
 
-// The set of the marks that were read, and the place behind them; or no marks.
-#[derive(Clone, Copy)]
-pub(crate) enum Marks {
-    Read(PrivilegeSet, usize),
-    Bad,
-}
-
-// A row that was read, its role, its set and the place behind it; or no row.
-#[derive(Clone, Copy)]
-pub(crate) enum Line {
-    Read(Role, PrivilegeSet, usize),
-    Bad,
-}
-
-// The columns at a place, strictly ascending, each behind a comma; gives how many there are.
-fn read_columns(text: &[u8], at: usize, array: &mut [u8; 64]) -> Columns
-    requires { length array.old ≡ privilege_count }
-    ensures { ColumnsRead text.now (columns privilege_count 0 (rest text.now at)) array.new result }
+// The columns at a text's front, strictly ascending, each behind a comma.
+fn read_columns(text: &[u8]) -> Parsed<'_, Columns>
+    ensures { read_columns result ≡ columns privilege_count 0 text.now }
 {
+    let mut array = [0u8; 64];
     let mut count: usize = 0;
     let mut low: u8 = 0;
-    let mut place = at;
-    while at_comma(text, place) {
-        match field(text, place + 1, PRIVILEGES) {
-            Number::Bad => {
-                return Columns::Bad;
-            }
-            Number::Read(n, next) => {
-                if n < low {
-                    return Columns::Bad;
-                }
-                array[count] = n;
-                count += 1;
-                low = n + 1;
-                place = next;
-            }
+    let mut left = text;
+    while let Some(number) = left.strip_prefix(b",") {
+        let (column, behind) = field(number, PRIVILEGES)?;
+        if column < low {
+            return None;
         }
+        array[count] = column;
+        count += 1;
+        low = column + 1;
+        left = behind;
     }
-    Columns::Read(count, place)
+    Some((Columns { array, count }, left))
 }
 
-// The heading of a text, with the end of its line; gives how many columns it has.
-pub(crate) fn read_heading(text: &[u8], array: &mut [u8; 64]) -> Columns
-    requires { length array.old ≡ privilege_count }
-    ensures { ColumnsRead text.now (heading text.now) array.new result }
+// The heading of a text, with the end of its line.
+pub(crate) fn read_heading(text: &[u8]) -> Parsed<'_, Columns>
+    ensures { read_columns result ≡ heading text.now }
 {
-    match read_columns(text, opened(text), array) {
-        Columns::Bad => Columns::Bad,
-        Columns::Read(count, next) => {
-            if count == 0 {
-                return Columns::Bad;
-            }
-            match ended(text, next) {
-                LineEnd::Bad => Columns::Bad,
-                LineEnd::At(end) => Columns::Read(count, end),
-            }
-        }
+    let (columns, behind) = read_columns(opened(text))?;
+    if columns.as_slice().is_empty() {
+        return None;
     }
+    Some((columns, ended(behind)?))
 }
 
 // The set with the privilege of a column, if the column is marked.
@@ -92,42 +65,27 @@ fn with_mark(set: PrivilegeSet, mark: u8, column: Privilege) -> PrivilegeSet
     }
 }
 
-// The set of the marks at a place, one for each column.
-fn read_marks(text: &[u8], at: usize, columns: &[u8; 64], count: usize) -> Marks
-    requires { (count ≤ privilege_count) × (length columns.now ≡ privilege_count) }
-    ensures { read_marks text.now result ≡ added (take count columns.now) 0 (marks count (rest text.now at)) }
+// The set of the marks at a text's front, one for each column.
+fn read_marks<'a>(text: &'a [u8], columns: &[u8]) -> Parsed<'a, PrivilegeSet>
+    ensures { read_marks result ≡ added columns.now empty (marks (length columns.now) text.now) }
 {
     let mut set = privileges::empty();
-    let mut place = at;
-    let mut i: usize = 0;
-    while i < count {
-        match further(text, place) {
-            Number::Bad => {
-                return Marks::Bad;
-            }
-            Number::Read(n, next) => {
-                set = with_mark(set, n, Privilege(columns[i]));
-                place = next;
-            }
-        }
-        i += 1;
+    let mut left = text;
+    for column in columns {
+        let (mark, behind) = further(left)?;
+        set = with_mark(set, mark, Privilege(*column));
+        left = behind;
     }
-    Marks::Read(set, place)
+    Some((set, left))
 }
 
-// The row at a place, with the end of its line.
-pub(crate) fn read_row(text: &[u8], at: usize, columns: &[u8; 64], count: usize) -> Line
-    requires { (count ≤ privilege_count) × (length columns.now ≡ privilege_count) }
-    ensures { read_line text.now result ≡ meant (take count columns.now) (row count (rest text.now at)) }
+// The row at a text's front, with the end of its line.
+pub(crate) fn read_row<'a>(text: &'a [u8], columns: &[u8]) -> Parsed<'a, Row>
+    ensures { read_row result ≡ meant columns.now (row (length columns.now) text.now) }
 {
-    match field(text, at, ROLES) {
-        Number::Bad => Line::Bad,
-        Number::Read(n, next) => match read_marks(text, next, columns, count) {
-            Marks::Bad => Line::Bad,
-            Marks::Read(set, behind) => match ended(text, behind) {
-                LineEnd::Bad => Line::Bad,
-                LineEnd::At(end) => Line::Read(Role(n), set, end),
-            },
-        },
-    }
+    let (role, behind) = field(text, ROLES)?;
+    let (set, behind) = read_marks(behind, columns)?;
+    let end = ended(behind)?;
+    let role = Role(role);
+    Some((Row { role, set }, end))
 }

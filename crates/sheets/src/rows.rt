@@ -1,66 +1,41 @@
 // The rows of a sheet, one after the other: counted, and written as records.
-ghost use Rattle.std.specs.Prelude.{◌-◌, ◌*◌, ◌≤◌, ◌≡◌, length, take};
-ghost use Rattle.graph.specs.Graph.{privilege_count};
+ghost use Rattle.std.specs.Prelude.{◌*◌, ◌≤◌, ◌≡◌, length};
 ghost use Rattle.seats.specs.Records.{record_length};
 ghost use Rattle.seats.specs.Written.{Written};
-ghost use Rattle.sheets.specs.Parsing.{rest, rows};
-ghost use Rattle.sheets.specs.Working.{Counted, known_records};
+ghost use Rattle.sheets.specs.Parsing.{rows};
+ghost use Rattle.sheets.specs.Working.{counted, known_records};
 
-use crate::lines::{Line, read_row};
+use crate::ImportError;
+use crate::lines::read_row;
 use seats::records::{RECORD, write_add_by_privileges};
 
-// How many good rows the text has from a place on, and whether there is nothing behind them.
-#[derive(Drop)]
-pub(crate) enum Rows {
-    All(usize),
-    Some(usize),
-}
-
-// The rows from a place on, counted.
-pub(crate) fn count_rows(text: &[u8], at: usize, columns: &[u8; 64], count: usize) -> Rows
-    requires { (count ≤ privilege_count) × (length columns.now ≡ privilege_count) }
-    ensures { Counted (rows count (rest text.now at)) (length text.now - at) result }
+// How many rows a text behind a heading has; or its first bad one.
+pub(crate) fn count_rows(text: &[u8], columns: &[u8]) -> Result<usize, ImportError>
+    ensures { result ≡ counted (rows (length columns.now) text.now) }
 {
     let mut n: usize = 0;
-    let mut place = at;
-    while place < text.len() {
-        match read_row(text, place, columns, count) {
-            Line::Bad => {
-                return Rows::Some(n);
-            }
-            Line::Read(_, _, next) => {
-                n += 1;
-                place = next;
-            }
-        }
+    let mut left = text;
+    while !left.is_empty() {
+        let Some((_, behind)) = read_row(left, columns) else {
+            return Err(ImportError::BadRow(n + 2));
+        };
+        n += 1;
+        left = behind;
     }
-    Rows::All(n)
+    Ok(n)
 }
 
-// The records of the rows from a place on; gives the place behind them.
-pub(crate) fn write_rows(
-    text: &[u8],
-    at: usize,
-    columns: &[u8; 64],
-    count: usize,
-    tape: &mut [u8],
-) -> usize
-    requires { (count ≤ privilege_count) × (length columns.now ≡ privilege_count) × (record_length * length (rows count (rest text.now at)).0 ≤ length tape.old) }
-    ensures { Written tape.old 0 (known_records (take count columns.now) (rows count (rest text.now at)).0) tape.new result }
+// The records of the rows that a text begins with; gives the place behind them.
+pub(crate) fn write_rows(text: &[u8], columns: &[u8], tape: &mut [u8]) -> usize
+    requires { record_length * length (rows (length columns.now) text.now).0 ≤ length tape.old }
+    ensures { Written tape.old 0 (known_records columns.now (rows (length columns.now) text.now).0) tape.new result }
 {
     let mut to: usize = 0;
-    let mut place = at;
-    while place < text.len() {
-        match read_row(text, place, columns, count) {
-            Line::Bad => {
-                return to;
-            }
-            Line::Read(role, set, next) => {
-                let _ = write_add_by_privileges(&mut tape[to..], role, set);
-                to += RECORD;
-                place = next;
-            }
-        }
+    let mut left = text;
+    while let Some((row, behind)) = read_row(left, columns) {
+        let _ = write_add_by_privileges(&mut tape[to..], row.role, row.set);
+        to += RECORD;
+        left = behind;
     }
     to
 }

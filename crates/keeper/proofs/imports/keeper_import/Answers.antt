@@ -1,7 +1,9 @@
 -- `keeper::imports::keeper_import` meets its contract: the answer of the importer as one number.
 -- Assumes nothing.
-use mathlib.Core.Path.{sym, ap}
+use mathlib.Core.Path.{refl, ap}
 use native.Mathlib.Omega.{arith}
+use Rattle.std.specs.Prelude.{Err}
+use Rattle.sheets.specs.Importing.{imported, refused}
 use Rattle.sheets.specs.Reading.{read_imported}
 use Rattle.sheets.proofs.Outcomes.{place_bound}
 use Rattle.keeper.specs.Imports.{import_code}
@@ -10,16 +12,17 @@ use Rattle.keeper.proofs.imports.keeper_import.Goals as goal
 pub overflow_add-result : goal.overflow_add-result
 unfolding read_imported
 overflow_add-result c =
-    let b = place_bound c.import-imported.ensures (ap read_imported c.in-Refused.is) in
-    let g = c.well_formed.0.1 in
+    let b = place_bound c.in-Err-BadRow.ensures (ap (λ e. read_imported (Err e)) c.in-Err-BadRow.field-0-is) in
     omega arith
 
-pub returns-in-Written : goal.returns-in-Written
+pub returns-in-Ok : goal.returns-in-Ok
 unfolding read_imported import_code
-returns-in-Written c =
-    record { answer = read_imported c.import-imported.result; imports = c.import-imported.ensures; code = sym (ap (λ r. import_code (read_imported r)) c.in-Written.is) }
+returns-in-Ok c = record { answer = imported c.in-Ok.length; imports = c.in-Ok.ensures; code = refl }
 
-pub returns-in-Refused : goal.returns-in-Refused
+pub returns-in-Err-BadRow : goal.returns-in-Err-BadRow
 unfolding read_imported import_code
-returns-in-Refused c =
-    record { answer = read_imported c.import-imported.result; imports = c.import-imported.ensures; code = sym (ap (λ r. import_code (read_imported r)) c.in-Refused.is) }
+returns-in-Err-BadRow c = record { answer = refused 32 c.in-Err-BadRow.row; imports = rw c.in-Err-BadRow.field-0-is at c.in-Err-BadRow.ensures; code = refl }
+
+pub returns-in-Err-NoRoom : goal.returns-in-Err-NoRoom
+unfolding read_imported import_code
+returns-in-Err-NoRoom c = record { answer = refused 33 0; imports = rw c.in-Err-NoRoom.field-0-is at c.in-Err-NoRoom.ensures; code = refl }

@@ -1,18 +1,17 @@
--- `fields::binary` meets its contract: the digit is compared.
+-- `fields::binary` meets its contract: one law for each way out.
 -- Assumes nothing.
-use native.Mathlib.Omega.{arith}
-use Rattle.sheets.specs.Working.{read_number}
-use Rattle.sheets.proofs.FieldLaws.{binary_no, binary_read}
+use Rattle.sheets.specs.Working.{read_as}
+use Rattle.sheets.proofs.FieldLaws.{binary_no, binary_high, binary_read}
 use Rattle.sheets.proofs.fields.binary.Goals as goal
 
-pub returns-then-d-gt1 : goal.returns-then-d-gt1
-unfolding read_number
-returns-then-d-gt1 c = binary_no _ _ c.digit-d.ensures.0 c.if-d-gt1.true
+pub returns-in_err-mark : goal.returns-in_err-mark
+unfolding read_as
+returns-in_err-mark c = rw c.from_residual.ensures (binary_no _ c.in_err-mark.ensures)
 
-pub overflow_add-result : goal.overflow_add-result
-overflow_add-result c =
-    let k = c.digit-d.ensures.1.1 (let l = c.if-d-gt1.false in omega arith) in omega arith
+pub returns-then-mark-gt1 : goal.returns-then-mark-gt1
+unfolding read_as
+returns-then-mark-gt1 c = let e = c.in_ok-mark.ensures in binary_high _ e.0 e.1 c.if-mark-gt1.true
 
 pub returns : goal.returns
-unfolding read_number
-returns c = binary_read _ _ c.digit-d.ensures.0 c.if-d-gt1.false
+unfolding read_as
+returns c = let e = c.in_ok-mark.ensures in binary_read _ e.0 e.1 c.if-mark-gt1.false

@@ -1,14 +1,10 @@
 -- `fields::digit` meets its contract: the bytes from 48 to 57 are the digits.
 -- Assumes nothing.
-use native.Mathlib.Omega.{arith}
-use Rattle.sheets.proofs.FieldLaws.{value_low, value_high, value_between}
+use Rattle.sheets.proofs.FieldLaws.{no_digit_in, no_digit_first}
 use Rattle.sheets.proofs.fields.digit.Goals as goal
 
-pub returns-then-x-lt48 : goal.returns-then-x-lt48
-returns-then-x-lt48 c = (value_low c.byte-x.ensures.0 c.if-x-lt48.true, (omega arith, λ h. omega arith))
+pub returns-in_err-first : goal.returns-in_err-first
+returns-in_err-first c = rw c.from_residual.ensures (no_digit_in _ c.in_err-first.ensures.cases)
 
-pub returns-then-x-gt57 : goal.returns-then-x-gt57
-returns-then-x-gt57 c = (value_high c.byte-x.ensures.0 c.if-x-gt57.true, (omega arith, λ h. omega arith))
-
-pub returns-else-x-gt57 : goal.returns-else-x-gt57
-returns-else-x-gt57 c = (value_between c.byte-x.ensures.0 c.if-x-lt48.false c.if-x-gt57.false, (omega arith, λ h. omega arith))
+pub returns-then-not-is_ascii_digit : goal.returns-then-not-is_ascii_digit
+returns-then-not-is_ascii_digit c = no_digit_first c.in_ok-first.ensures.cases.0 c.if-not-is_ascii_digit.ensures.cases

@@ -1,12 +1,14 @@
 -- `fields::further` meets its contract: a mark where a comma stands before it.
 -- Assumes nothing.
-use Rattle.sheets.specs.Working.{read_number}
-use Rattle.sheets.proofs.FieldLaws.{further_read, further_no}
+use mathlib.Core.Path.{◌∙◌}
+use Rattle.sheets.specs.Parsing.{binary}
+use Rattle.sheets.specs.Working.{read_as}
+use Rattle.sheets.proofs.FieldLaws.{further_no, further_read}
 use Rattle.sheets.proofs.fields.further.Goals as goal
 
-pub returns-then-byte-eq44 : goal.returns-then-byte-eq44
-returns-then-byte-eq44 c = further_read _ _ c.byte.ensures.0 c.if-byte-eq44.true c.mark.ensures
+pub returns-in_err-strip_prefix : goal.returns-in_err-strip_prefix
+unfolding read_as
+returns-in_err-strip_prefix c = rw c.from_residual.ensures (further_no _ c.in_err-strip_prefix.ensures.cases)
 
-pub returns-else-byte-eq44 : goal.returns-else-byte-eq44
-unfolding read_number
-returns-else-byte-eq44 c = further_no _ _ c.byte.ensures.0 c.if-byte-eq44.false
+pub returns : goal.returns
+returns c = let s = c.in_ok-strip_prefix.ensures.cases in c.quotable.ensures binary (λ t r p. p) ∙ further_read _ s.0 s.1

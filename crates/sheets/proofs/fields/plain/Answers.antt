@@ -1,25 +1,21 @@
 -- `fields::plain` meets its contract: one law for each way out.
 -- Assumes nothing.
-use native.Mathlib.Omega.{arith}
-use Rattle.sheets.specs.Working.{read_number}
+use mathlib.Core.Path.{◌∙◌}
+use Rattle.sheets.specs.Working.{read_as}
 use Rattle.sheets.proofs.FieldLaws.{plain_no, plain_high, plain_zero, plain_longer}
 use Rattle.sheets.proofs.fields.plain.Goals as goal
 
-pub returns-then-a-gt9 : goal.returns-then-a-gt9
-unfolding read_number
-returns-then-a-gt9 c = plain_no _ _ _ c.digit-a.ensures.0 c.if-a-gt9.true
+pub returns-in_err-first : goal.returns-in_err-first
+unfolding read_as
+returns-in_err-first c = rw c.from_residual.ensures (plain_no _ _ c.in_err-first.ensures)
 
-pub returns-then-limit-a : goal.returns-then-limit-a
-unfolding read_number
-returns-then-limit-a c = plain_high _ _ _ c.digit-a.ensures.0 c.if-a-gt9.false c.if-limit-a.true
+pub returns-then-limit-first : goal.returns-then-limit-first
+unfolding read_as
+returns-then-limit-first c = let e = c.in_ok-first.ensures in plain_high _ _ e.0 e.1 c.if-limit-first.true
 
-pub overflow_add-next : goal.overflow_add-next
-overflow_add-next c =
-    let k = c.digit-a.ensures.1.1 c.if-a-gt9.false in omega arith
-
-pub returns-then-a-eq0 : goal.returns-then-a-eq0
-unfolding read_number
-returns-then-a-eq0 c = plain_zero _ _ _ c.digit-a.ensures.0 c.if-a-gt9.false c.if-limit-a.false c.if-a-eq0.true
+pub returns-then-first-eq0 : goal.returns-then-first-eq0
+unfolding read_as
+returns-then-first-eq0 c = let e = c.in_ok-first.ensures in plain_zero _ _ e.0 e.1 c.if-limit-first.false c.if-first-eq0.true
 
 pub returns : goal.returns
-returns c = plain_longer _ _ _ c.digit-a.ensures.0 c.if-a-gt9.false c.if-limit-a.false c.if-a-eq0.false c.longer.ensures
+returns c = let e = c.in_ok-first.ensures in c.longer.ensures ∙ plain_longer _ _ e.0 e.1 c.if-limit-first.false c.if-first-eq0.false

@@ -3,8 +3,8 @@ use Rattle.graph.specs.Graph.{privilege_count}
 use Rattle.sheets.proofs.ColumnLaws.{Gathering}
 use Rattle.sheets.proofs.lines.read_columns.Given as goal
 
-abbrev pub invariant-loop-at : goal.invariant-loop-at
-invariant-loop-at l = Gathering l.text l.at l.array l.count l.low l.place
+abbrev pub invariant-loop-number : goal.invariant-loop-number
+invariant-loop-number l = Gathering l.text l.array l.count l.low l.left
 
-abbrev pub decreases-loop-at : goal.decreases-loop-at
-decreases-loop-at l = privilege_count - l.count
+abbrev pub decreases-loop-number : goal.decreases-loop-number
+decreases-loop-number l = privilege_count - l.count

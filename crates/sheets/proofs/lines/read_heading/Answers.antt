@@ -1,18 +1,22 @@
 -- `lines::read_heading` meets its contract: one law for each way out.
 -- Assumes nothing.
+use Rattle.sheets.specs.Working.{read_as, read_end}
 use Rattle.sheets.proofs.ColumnLaws.{heading_no, heading_empty, heading_open, heading_read}
 use Rattle.sheets.proofs.lines.read_heading.Goals as goal
 
-pub returns-then-count-eq0 : goal.returns-then-count-eq0
-returns-then-count-eq0 c = heading_empty _ _ _ c.opened.ensures _ c.read_columns.ensures c.in-Read.is c.if-count-eq0.true
+pub returns-in_err-columns : goal.returns-in_err-columns
+unfolding read_as
+returns-in_err-columns c = rw c.from_residual.ensures (heading_no _ c.opened.ensures c.in_err-columns.ensures)
 
-pub returns-in-Bad : goal.returns-in-Bad
-returns-in-Bad c = heading_no _ _ _ c.opened.ensures _ c.read_columns.ensures c.in-Bad.is
+pub returns-then-is_empty : goal.returns-then-is_empty
+unfolding read_as
+returns-then-is_empty c = heading_empty _ c.opened.ensures c.in_ok-columns.ensures (rw c.as_slice.ensures at c.if-is_empty.ensures)
 
-pub returns-in-Bad-ended : goal.returns-in-Bad-ended
-returns-in-Bad-ended c =
-    heading_open _ _ _ c.opened.ensures _ c.read_columns.ensures c.in-Read.is c.if-count-eq0.false _ c.ended.ensures c.in-Bad-ended.is
+pub returns-in_err-ended : goal.returns-in_err-ended
+unfolding read_as read_end
+returns-in_err-ended c =
+    rw c.from_residual-in_err-ended.ensures (heading_open _ c.opened.ensures c.in_ok-columns.ensures (rw c.as_slice.ensures at c.if-is_empty.ensures) c.in_err-ended.ensures)
 
-pub returns-in-At : goal.returns-in-At
-returns-in-At c =
-    heading_read _ _ _ c.opened.ensures _ c.read_columns.ensures c.in-Read.is c.if-count-eq0.false _ c.ended.ensures c.in-At.is
+pub returns : goal.returns
+unfolding read_as read_end
+returns c = heading_read _ c.opened.ensures c.in_ok-columns.ensures (rw c.as_slice.ensures at c.if-is_empty.ensures) c.in_ok-ended.ensures

@@ -1,23 +1,21 @@
 -- `lines::read_row` meets its contract: one law for each way out.
 -- Assumes nothing.
-use Rattle.sheets.specs.Working.{read_line}
+use Rattle.sheets.specs.Working.{read_as, read_end}
 use Rattle.sheets.proofs.LineLaws.{row_no, row_unmarked, row_open, row_read}
 use Rattle.sheets.proofs.lines.read_row.Goals as goal
 
-pub returns-in-Bad : goal.returns-in-Bad
-unfolding read_line
-returns-in-Bad c = row_no _ _ _ _ _ c.field.ensures c.in-Bad.is
+pub returns-in_err-role : goal.returns-in_err-role
+unfolding read_as
+returns-in_err-role c = rw c.from_residual.ensures (row_no _ _ _ c.in_err-role.ensures)
 
-pub returns-in-Bad-read_marks : goal.returns-in-Bad-read_marks
-unfolding read_line
-returns-in-Bad-read_marks c = row_unmarked _ _ _ _ _ c.field.ensures c.in-Read.is _ c.read_marks.ensures c.in-Bad-read_marks.is
+pub returns-in_err-set : goal.returns-in_err-set
+unfolding read_as
+returns-in_err-set c = rw c.from_residual-in_err-set.ensures (row_unmarked _ _ _ c.in_ok-role.ensures c.in_err-set.ensures)
 
-pub returns-in-Bad-ended : goal.returns-in-Bad-ended
-unfolding read_line
-returns-in-Bad-ended c =
-    row_open _ _ _ _ _ c.field.ensures c.in-Read.is _ c.read_marks.ensures c.in-Read-read_marks.is _ c.ended.ensures c.in-Bad-ended.is
+pub returns-in_err-end : goal.returns-in_err-end
+unfolding read_as read_end
+returns-in_err-end c = rw c.from_residual-in_err-end.ensures (row_open _ _ _ c.in_ok-role.ensures c.in_ok-set.ensures c.in_err-end.ensures)
 
-pub returns-in-At : goal.returns-in-At
-unfolding read_line
-returns-in-At c =
-    row_read _ _ _ _ _ c.field.ensures c.in-Read.is _ c.read_marks.ensures c.in-Read-read_marks.is _ c.ended.ensures c.in-At.is
+pub returns : goal.returns
+unfolding read_as read_end
+returns c = row_read _ _ _ c.in_ok-role.ensures c.in_ok-set.ensures c.in_ok-end.ensures

@@ -1,10 +1,9 @@
-use Prim.Native.Nat.{◌-◌}
 use lib.ListN.{length}
 use Rattle.sheets.proofs.RowLaws.{Counting}
 use Rattle.sheets.proofs.rows.count_rows.Given as goal
 
-abbrev pub invariant-loop-place : goal.invariant-loop-place
-invariant-loop-place l = Counting l.text l.count l.at l.n l.place
+abbrev pub invariant-loop-left : goal.invariant-loop-left
+invariant-loop-left l = Counting l.text (length l.columns) l.n l.left
 
-abbrev pub decreases-loop-place : goal.decreases-loop-place
-decreases-loop-place l = length l.text - l.place
+abbrev pub decreases-loop-left : goal.decreases-loop-left
+decreases-loop-left l = length l.left

@@ -1,10 +1,9 @@
-use Prim.Native.Nat.{◌-◌}
-use lib.ListN.{length, take}
+use lib.ListN.{length}
 use Rattle.sheets.proofs.RowLaws.{Taping}
 use Rattle.sheets.proofs.rows.write_rows.Given as goal
 
-abbrev pub invariant-loop-place : goal.invariant-loop-place
-invariant-loop-place l = Taping l.text (take l.count l.columns) l.count l.at l.initial.tape l.tape l.to l.place
+abbrev pub invariant-loop-row : goal.invariant-loop-row
+invariant-loop-row l = Taping l.text l.columns (length l.columns) l.initial.tape l.tape l.to l.left
 
-abbrev pub decreases-loop-place : goal.decreases-loop-place
-decreases-loop-place l = length l.text - l.place
+abbrev pub decreases-loop-row : goal.decreases-loop-row
+decreases-loop-row l = length l.left
