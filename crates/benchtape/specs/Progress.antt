@@ -1,13 +1,11 @@
 -- What the functions of benchtape promise each other: how far the program has come with the bytes read so far.
-use Rattle.std.specs.Prelude.{true, false, List, ◌≡◌, ℕ, ◌+◌, ◌*◌, ◌%◌, ◌^◌, ◌<◌, ◌≤◌, eqb, length, take}
+use Rattle.std.specs.Prelude.{true, List, ◌≡◌, ℕ, ◌+◌, ◌*◌, ◌%◌, ◌^◌, ◌<◌, ◌≤◌, eqb, length, take}
 use Rattle.graph.specs.Drawing.{edge_count}
 use Rattle.seats.specs.Records.{record_length}
 use Rattle.seats.specs.Tape.{fed, end_line}
 use Rattle.sittings.specs.Sittings.{Sitting, fresh}
 use Rattle.sittings.specs.Records.{step}
 use Rattle.sittings.specs.Reading.{read_sitting}
-use Rattle.benchtape.specs.declared.Read as read-enum
-use Rattle.benchtape.specs.declared.Read.TheVariants as readings
 use Rattle.benchtape.specs.declared.Progress as progress-struct
 
 -- How many records are read at once, and how many bytes these are.
@@ -21,16 +19,6 @@ chunk_length = chunk_records * record_length
 abbrev pub IsPrefixLen : ℕ → List ℕ → Type 0
 IsPrefixLen n xs = (n ≤ length xs) × (n ≡ length (take n xs))
 
--- The bytes read lie within the buffer.
-abbrev pub Within : read-enum.Read → List ℕ → Type 0
-Within (readings.Bytes n) buffer = IsPrefixLen n buffer
-Within readings.Failed buffer = Unit {0}
-
--- The bytes read lie within the buffer, behind those that were read before.
-abbrev pub MoreWithin : ℕ → read-enum.Read → List ℕ → Type 0
-MoreWithin done (readings.Bytes n) buffer = done + n ≤ length buffer
-MoreWithin done readings.Failed buffer = Unit {0}
-
 -- The records so far and the sitting.
 abbrev pub standing : progress-struct.Progress → ℕ × Sitting
 standing r = (r.count, read_sitting r.sitting)
@@ -39,13 +27,11 @@ standing r = (r.count, read_sitting r.sitting)
 abbrev pub last_line : progress-struct.Progress → List ℕ
 last_line r = end_line r.count (edge_count (read_sitting r.sitting).state.graph)
 
--- The progress r is that of s after these bytes: where nothing failed they are fed, and there may be more where they are a whole chunk; a failure ends it where it stood.
+-- The progress r is that of s after these bytes: they are fed, and there may be more where they are a whole chunk.
 pub record Answered (s : progress-struct.Progress) (bytes : List ℕ) (r : progress-struct.Progress) : Type 0 where
-  pub done : r.failed ≡ false → standing r ≡ (fed step (read_sitting s.sitting) s.count bytes).1
-  pub bound : r.failed ≡ false → r.count < 2 ^ 64
-  pub more : r.failed ≡ false → r.more ≡ eqb (length bytes) chunk_length
-  pub kept : r.failed ≡ true → standing r ≡ standing s
-  pub stopped : r.failed ≡ true → r.more ≡ false
+  pub done : standing r ≡ (fed step (read_sitting s.sitting) s.count bytes).1
+  pub bound : r.count < 2 ^ 64
+  pub more : r.more ≡ eqb (length bytes) chunk_length
 
 -- The program stands where a tape, the bytes read so far, takes a fresh sitting; while there may be more, the tape ends where a record ends.
 pub record Reached (r : progress-struct.Progress) : Type 0 where

@@ -7,18 +7,19 @@
 
 #![tactic(auto)]
 
-ghost use Rattle.std.specs.Prelude.{true, List, ◌≡◌, ℕ, ◌≤◌, length};
+ghost use Rattle.std.specs.Prelude.{true, ◌≡◌, IfOk};
 ghost use Rattle.seats.specs.Tape.{fed};
 ghost use Rattle.sittings.specs.Records.{step};
 ghost use Rattle.sittings.specs.Reading.{read_sitting};
-ghost use Rattle.benchtape.specs.Progress.{Within, MoreWithin, last_line, Answered, Reached, Proceeded};
+ghost use Rattle.benchtape.specs.Progress.{IsPrefixLen, last_line, Answered, Reached, Proceeded};
 
-use graph::drawing;
+use graph::Refusal;
 use seats::records::RECORD;
 use seats::text::LINE;
 use seats::{FeedError, text};
 use sittings::{Sitting, tape};
 use std::io::{Print, Read as _};
+use std::{fmt, io};
 
 // How many records are read at once.
 const RECORDS: usize = 1024;
@@ -29,20 +30,50 @@ const CHUNK: usize = RECORDS * RECORD;
 // How many bytes their lines take at the most.
 const ROOM: usize = RECORDS * LINE;
 
-// What reading gives: how many bytes, or that it failed.
+// Why the program ends before the last line.
 #[derive(Clone, Copy)]
-enum Read {
-    Bytes(usize),
-    Failed,
+enum Failure {
+    Reading,
+    Writing,
+    TooManyRecords,
+    NoRoomForLines,
+    NoRoomForLastLine,
 }
 
-// How far the program has come: the sitting, the records so far, whether there may be more of them, and whether something failed.
+impl fmt::Display for Failure {
+    fn fmt<W: fmt::Write>(&self, f: &mut fmt::Formatter<W>) -> fmt::Result {
+        match self {
+            Failure::Reading => write!(f, "reading failed"),
+            Failure::Writing => write!(f, "writing failed"),
+            Failure::TooManyRecords => write!(f, "too many records"),
+            Failure::NoRoomForLines => write!(f, "no room for the lines"),
+            Failure::NoRoomForLastLine => write!(f, "no room for the last line"),
+        }
+    }
+}
+
+impl From<Refusal> for Failure {
+    fn from(_too_short: Refusal) -> Failure {
+        Failure::NoRoomForLastLine
+    }
+}
+
+impl From<FeedError> for Failure {
+    fn from(error: FeedError) -> Failure {
+        match error {
+            FeedError::TooShort(_) => Failure::NoRoomForLines,
+            FeedError::Uncounted => Failure::TooManyRecords,
+        }
+    }
+}
+
+// How far the program has come: the sitting, the records so far, and whether there may be more of them.
+// The flag is a field beside the others, since the last line needs these when there are no more.
 #[derive(Clone, Copy)]
 struct Progress {
     sitting: Sitting,
     count: u64,
     more: bool,
-    failed: bool,
 }
 
 // Zeros, to be read into.
@@ -55,144 +86,98 @@ fn room() -> [u8; ROOM] {
     [0; ROOM]
 }
 
-// Reads some bytes behind those that were read; gives how many, or that it failed.
-fn read_more(rt: HostRuntime, buffer: &mut [u8], done: usize) -> Read
-    requires { done ≤ length buffer.old }
-    ensures { MoreWithin done result buffer.new }
+// Reads until the buffer is full or the input ends; gives how many bytes were read.
+// The loop is written out, since `read_to_end` would need a heap.
+fn fill(rt: HostRuntime, buffer: &mut [u8]) -> io::Result<usize>
+    ensures { IfOk result (λ n. IsPrefixLen n buffer.new) }
 {
     let mut input = rt.stdin();
-    match input.read(&mut buffer[done..]) {
-        Ok(n) => Read::Bytes(n),
-        Err(_) => Read::Failed,
-    }
-}
-
-// Reads until the buffer is full or the input ends.
-fn fill(rt: HostRuntime, buffer: &mut [u8]) -> Read
-    ensures { Within result buffer.new }
-{
     let mut done: usize = 0;
     while done < buffer.len() {
-        let got = read_more(rt, buffer, done);
-        let Read::Bytes(n) = got else {
-            return Read::Failed;
-        };
+        let n = input.read(&mut buffer[done..])?;
         if n == 0 {
             break;
         }
         done += n;
     }
-    Read::Bytes(done)
-}
-
-// The program ends where it stands, and the reason goes to standard error.
-fn stop(rt: HostRuntime, progress: Progress, reason: &[u8]) -> Progress
-    ensures { (bytes : List ℕ) → Answered progress bytes result }
-{
-    let _said = rt.stderr().write_all(reason).is_ok();
-    let sitting = progress.sitting;
-    Progress {
-        sitting,
-        count: progress.count,
-        more: false,
-        failed: true,
-    }
+    Ok(done)
 }
 
 // Writes the lines of these records, whoever calls it having shown that they are.
-fn write_lines(rt: HostRuntime, progress: Progress, bytes: &[u8], lines: &[u8]) -> bool
+fn write_lines(rt: HostRuntime, progress: Progress, bytes: &[u8], lines: &[u8]) -> io::Result<()>
     requires { lines.now ≡ (fed step (read_sitting progress.sitting) progress.count bytes.now).0 }
 {
-    rt.stdout().write_all(lines).is_ok()
+    rt.stdout().write_all(lines)
 }
 
 // Writes the last line, whoever calls it having shown that it is.
-fn write_last(rt: HostRuntime, progress: Progress, line: &[u8]) -> bool
+fn write_last(rt: HostRuntime, progress: Progress, line: &[u8]) -> io::Result<()>
     requires { (Reached progress) × (line.now ≡ last_line progress) }
 {
-    rt.stdout().write_all(line).is_ok()
+    rt.stdout().write_all(line)
 }
 
 // The records in these bytes are answered.
-fn answer(rt: HostRuntime, progress: Progress, bytes: &[u8]) -> Progress
-    ensures { Answered progress bytes.now result }
+fn answer(rt: HostRuntime, progress: Progress, bytes: &[u8]) -> Result<Progress, Failure>
+    ensures { IfOk result (λ r. Answered progress bytes.now r) }
 {
     let mut room = room();
     let sitting = progress.sitting;
     let fed = tape::feed(sitting, progress.count, bytes, &mut room);
-    match fed.answer {
-        Err(FeedError::Uncounted) => stop(rt, progress, b"benchtape: too many records\n"),
-        Err(FeedError::TooShort(_)) => stop(rt, progress, b"benchtape: no room for the lines\n"),
-        Ok(n) => {
-            if !write_lines(rt, progress, bytes, &room[..n]) {
-                return stop(rt, progress, b"benchtape: writing failed\n");
-            }
-            let after = fed.sitting;
-            Progress {
-                sitting: after,
-                count: fed.count,
-                more: bytes.len() == CHUNK,
-                failed: false,
-            }
-        }
-    }
+    let n = fed.answer?;
+    write_lines(rt, progress, bytes, &room[..n]).map_err(|_| Failure::Writing)?;
+    Ok(Progress {
+        sitting: fed.sitting,
+        count: fed.count,
+        more: bytes.len() == CHUNK,
+    })
 }
 
 // The next bytes are read, and their records answered.
-fn proceed(rt: HostRuntime, progress: Progress) -> Progress
+fn proceed(rt: HostRuntime, progress: Progress) -> Result<Progress, Failure>
     requires { (Reached progress) × (progress.more ≡ true) }
-    ensures { Proceeded progress result }
+    ensures { IfOk result (λ r. Proceeded progress r) }
 {
     let mut buffer = chunk();
-    let read = fill(rt, &mut buffer);
-    match read {
-        Read::Failed => stop(rt, progress, b"benchtape: reading failed\n"),
-        Read::Bytes(n) => answer(rt, progress, &buffer[..n]),
-    }
+    let n = fill(rt, &mut buffer).map_err(|_| Failure::Reading)?;
+    answer(rt, progress, &buffer[..n])
 }
 
 // All records of standard input, from a fresh sitting on.
-fn answer_all(rt: HostRuntime) -> Progress
-    ensures { Reached result }
+fn answer_all(rt: HostRuntime) -> Result<Progress, Failure>
+    ensures { IfOk result (λ r. Reached r) }
 {
     let sitting = tape::fresh();
     let mut progress = Progress {
         sitting,
         count: 0,
         more: true,
-        failed: false,
     };
-    loop {
-        progress = proceed(rt, progress);
-        if !progress.more {
-            return progress;
-        }
+    while progress.more {
+        progress = proceed(rt, progress)?;
     }
+    Ok(progress)
 }
 
 // The last line is written.
-fn finish(rt: HostRuntime, progress: Progress)
+fn finish(rt: HostRuntime, progress: Progress) -> Result<(), Failure>
     requires { Reached progress }
 {
     let mut room = [0u8; 64];
     let sitting = progress.sitting;
-    let sets = sitting.sets;
-    let edges = drawing::edge_count(sitting.roles, &sets) as u64;
-    match text::write_end(&mut room, progress.count, edges) {
-        Err(_) => {
-            stop(rt, progress, b"benchtape: no room for the last line\n");
-        }
-        Ok(n) => {
-            if !write_last(rt, progress, &room[..n]) {
-                stop(rt, progress, b"benchtape: writing failed\n");
-            }
-        }
-    }
+    let edges = u64::from(sitting.lent().state.graph.edge_count());
+    let n = text::write_end(&mut room, progress.count, edges)?;
+    write_last(rt, progress, &room[..n]).map_err(|_| Failure::Writing)
+}
+
+// Standard input is answered whole.
+fn run(rt: HostRuntime) -> Result<(), Failure> {
+    let progress = answer_all(rt)?;
+    finish(rt, progress)
 }
 
 fn main(rt: HostRuntime) {
-    let progress = answer_all(rt);
-    if !progress.failed {
-        finish(rt, progress);
+    if let Err(failure) = run(rt) {
+        let _said = eprintln!(rt; "benchtape: {failure}").is_ok();
     }
 }

@@ -1,27 +1,27 @@
 -- Each kind of change that its checks let pass lays the graph out without a circle, and so leaves a formed graph.
 -- Assumes nothing.
-use mathlib.Core.Path.{◌≡◌, sym, ap, ◌∙◌, subst}
-use mathlib.Core.Bool.{not, ◌&&◌, ◌||◌}
+use mathlib.Core.Path.{◌≡◌, sym, ap, subst}
+use mathlib.Core.Bool.{Bool, true, false, cond, not, ◌&&◌, ◌||◌}
 use mathlib.Core.Logic.{◌≢◌, ◌⊎◌, inl, inr}
-use Prim.Native.Nat.{ℕ, ◌<◌, ◌≤◌, ◌^◌}
+use Prim.Native.Nat.{ℕ, suc, ◌+◌, ◌<◌, ◌≤◌, ◌^◌}
 use native.Mathlib.Omega.{arith}
 use lib.Dec.{T, T_not, eqb}
 use Rattle.sets.specs.Sets.{member, single, difference, union, when}
-use Rattle.sets.proofs.Tests.{both, either, or_left, or_right, so, equal_test, test_equal}
+use Rattle.sets.proofs.Tests.{both, either, or_left, or_right, passes, fails, so, equal_test, test_equal}
 use Rattle.sets.proofs.Laws.{union-lt, difference-lt, single-lt, when-lt}
 use Rattle.sets.proofs.Members.{in_union, in_difference, difference_in, in_when, in_single}
-use Rattle.graph.specs.Graph.{Graph, role_count, privilege_count, is_end, present}
+use Rattle.graph.specs.Graph.{Graph, role_count, privilege_count, max_role, is_end, present}
 use Rattle.graph.specs.Drawing.{below, edge, direct, redraw}
 use Rattle.graph.specs.Editing.{Change, add_by_place, add_by_privileges, remove_role, grant, withdraw, add_edge, remove_edge, for_role, edit, changed}
 use Rattle.graph.specs.Refusing.{input_checks, at_or_below, state_checks, Passes}
 use Rattle.graph.specs.Invariants.{Formed}
-use Rattle.graph.proofs.Order.{not-end, edge-below}
+use Rattle.graph.proofs.Order.{member_present, below-max, not-end, edge-below}
 use Rattle.graph.proofs.Refusals.{number_lt, no_end_in, not_equal, all_present, no_circle_in}
 use Rattle.graph.specs.Working.{has_role, JoinsLaid}
 use Rattle.graph.proofs.Closing.{DirectsLaid, Laid, closed_formed}
-use Rattle.graph.proofs.Heights.{order, ordinary_below, raised, ordered, edges_laid}
+use Rattle.graph.proofs.Heights.{order, ordered, edges_laid}
 use Rattle.graph.proofs.DrawnSets.{direct_laid}
-use Rattle.graph.proofs.Placing.{given-more, one_if, one_passes, one_fails, one-le, at_or_below_cases, at_itself, at_or_below_up, place_laid, unplaced_laid, own_laid, one-more}
+use Rattle.graph.proofs.Placing.{given-more, at_or_below_cases, at_itself, at_or_below_up, place_laid, unplaced_laid, own_laid, one-more}
 
 -- The sets that a change carries have their width.
 unfoldable pub Fits : Change → Type 0
@@ -34,37 +34,52 @@ Fits (add_edge a b) = Unit {0}
 Fits (remove_edge a b) = Unit {0}
 
 -- ---- edges that make no circle, whatever the sets hold
-module _ (g : Graph) (h : g.roles < 2 ^ role_count) where
-  -- Kind 6: the class is 1 from b upwards.
-  pub edge_added_joins : (a b : ℕ) → T (present g a) → T (present g b) → 1 ≤ b → a ≢ b → (T (below g b a) → ⊥) → JoinsLaid g.roles (edit (add_edge a b) (redraw g)).joins
-  unfolding edit redraw present
-  edge_added_joins a b pa pb lb d n =
-      raised g h g.roles _ (λ r. one_if (at_or_below g b r))
-      (λ t r x. one-le (at_or_below g b t) (at_or_below g b r) (at_or_below_up g h b t r x))
-      (λ t r x. elim (cases t r x) [ inl y ↦ inl (edge-below g t r y) | inr (p, q) ↦ inr (higher t r p q) ])
-      (λ t m l. inl (ordinary_below g h t m l))
-      (λ t r x.
-      elim (cases t r x) [
-        | inl y ↦ ((edges_laid g h).joins_from t r y, ((edges_laid g h).joins_to t r y).0, ((edges_laid g h).joins_to t r y).1)
-        | inr (p, q) ↦ (subst (λ (i : ℕ). T (has_role g.roles i)) (sym p) pa, subst (λ (i : ℕ). T (has_role g.roles i)) (sym q) pb, omega arith)
-      ])
+-- Kind 6: from b upwards each role is raised above a.
+module _ (g : Graph) (j : JoinsLaid g.roles (edge g)) (a b : ℕ) (pa : T (present g a)) (pb : T (present g b)) (lb : 1 ≤ b) (d : a ≢ b) (n : T (below g b a) → ⊥) where
+  -- What a role's height gains: at b and above it more than a's own height.
+  rise : ℕ → ℕ
+  rise r = cond (at_or_below g b r) (suc (j.height a)) 0
+
+  rise-le : (t r : ℕ) → T (below g t r) → rise t ≤ rise r
+  unfolding rise
+  rise-le t r x = go (at_or_below g b t) (at_or_below g b r) (at_or_below_up g b t r x)
     where
-      cases : (t r : ℕ) → T (edge g t r || (eqb r b && eqb t a)) → T (edge g t r) ⊎ ((t ≡ a) × (r ≡ b))
-      cases t r x =
-          elim (either (edge g t r) (eqb r b && eqb t a) x) [
-            | inl y ↦ inl y
-            | inr y ↦ (let (q, p) = both (eqb r b) (eqb t a) y in inr (test_equal p, test_equal q))
-          ]
+      go : (p q : Bool) → (T p → T q) → cond p (suc (j.height a)) 0 ≤ cond q (suc (j.height a)) 0
+      go true true f = omega arith
+      go true false f = absurd (f tt)
+      go false q f = omega arith
 
-      higher : (t r : ℕ) → t ≡ a → r ≡ b → one_if (at_or_below g b t) < one_if (at_or_below g b r)
-      higher t r p q =
-          let x : one_if (at_or_below g b t) ≡ 0 =
-          ap (λ (i : ℕ). one_if (at_or_below g b i)) p
-          ∙ one_fails (at_or_below g b a) (λ h. elim (at_or_below_cases g b a h) [ inl e ↦ d (sym e) | inr y ↦ n y ]) in
-          let y : one_if (at_or_below g b r) ≡ 1 =
-          ap (λ (i : ℕ). one_if (at_or_below g b i)) q ∙ one_passes (at_or_below g b b) (at_itself g b) in
-          omega arith
+  rise_low : rise a ≡ 0
+  unfolding rise
+  rise_low = rw (fails (at_or_below g b a) (λ h. elim (at_or_below_cases g b a h) [ inl e ↦ d (sym e) | inr y ↦ n y ]))
 
+  rise_high : rise b ≡ suc (j.height a)
+  unfolding rise
+  rise_high = rw (passes (at_or_below g b b) (at_itself g b))
+
+  edge_cases : (t r : ℕ) → T ((edit (add_edge a b) (redraw g)).joins t r) → T (edge g t r) ⊎ ((t ≡ a) × (r ≡ b))
+  unfolding edit redraw
+  edge_cases t r x =
+      elim (either (edge g t r) (eqb r b && eqb t a) x) [
+        | inl y ↦ inl y
+        | inr y ↦ (let (q, p) = both (eqb r b) (eqb t a) y in inr (test_equal p, test_equal q))
+      ]
+
+  pub edge_added_joins : JoinsLaid g.roles (edit (add_edge a b) (redraw g)).joins
+  unfolding present
+  edge_added_joins = record {
+    height = λ r. j.height r + rise r;
+    falls = λ t r x.
+        elim (edge_cases t r x) [
+          | inl y ↦ omega (arith, j.falls t r y, rise-le t r (edge-below g t r y))
+          | inr (p, q) ↦ omega (arith, rise_low, rise_high, ap j.height p, ap rise p, ap rise q)
+        ];
+    top = λ t m l. omega (arith, j.top t m l, rise-le t max_role (below-max g t (member_present g t m) (omega arith)));
+    joins_from = λ t r x. elim (edge_cases t r x) [ inl y ↦ j.joins_from t r y | inr (p, q) ↦ subst (λ (i : ℕ). T (has_role g.roles i)) (sym p) pa ];
+    joins_to = λ t r x. elim (edge_cases t r x) [ inl y ↦ j.joins_to t r y | inr (p, q) ↦ (subst (λ (i : ℕ). T (has_role g.roles i)) (sym q) pb, omega arith) ];
+  }
+
+module _ (g : Graph) (h : g.roles < 2 ^ role_count) where
   -- Kind 7: the edges that are left lie in the order.
   pub removed_below : (a b : ℕ) → T (edge g a b) → (t r : ℕ) → T ((edit (remove_edge a b) (redraw g)).joins t r) → T (below g t r)
   unfolding edit redraw
@@ -117,6 +132,12 @@ module _ (g : Graph) (h : g.roles < 2 ^ role_count) where
       let (p, q) = (order g h).between_present t r y in
       (other_role a t n p, other_role a r m q))
 
+-- Whatever their checks let pass, an edge more makes no circle where there was none, also where the roles have no bound.
+pub edge_laid : (g : Graph) → JoinsLaid g.roles (edge g) → (a b : ℕ) → Passes (input_checks (add_edge a b)) → Passes (state_checks g (add_edge a b)) → JoinsLaid g.roles (edit (add_edge a b) (redraw g)).joins
+unfolding Passes input_checks state_checks
+edge_laid g j a b (x₁, (x₂, (x₃, (x₄, (x₅, _))))) (y₁, (y₂, (y₃, (y₄, _)))) =
+    edge_added_joins g j a b (so (present g a) y₁) (so (present g b) y₂) (let l = not-end b x₄ in omega arith) (not_equal a b x₅) y₄
+
 -- Whatever its checks let pass, a change makes no circle.
 pub joins_laid : (g : Graph) → g.roles < 2 ^ role_count → (c : Change) → Fits c → Passes (input_checks c) → Passes (state_checks g c) → JoinsLaid (edit c (redraw g)).roles (edit c (redraw g)).joins
 unfolding Fits Passes input_checks state_checks edit redraw
@@ -129,8 +150,7 @@ joins_laid g h (add_by_privileges a own) _ (x₁, (x₂, _)) (y₁, _) = unplace
 joins_laid g h (remove_role a b) _ _ _ = role_removed_joins g h a b
 joins_laid g h (grant a b) _ _ _ = edges_laid g h
 joins_laid g h (withdraw a b) _ _ _ = edges_laid g h
-joins_laid g h (add_edge a b) _ (x₁, (x₂, (x₃, (x₄, (x₅, _))))) (y₁, (y₂, (y₃, (y₄, _)))) =
-    edge_added_joins g h a b (so (present g a) y₁) (so (present g b) y₂) (let l = not-end b x₄ in omega arith) (not_equal a b x₅) y₄
+joins_laid g h (add_edge a b) _ x y = edge_laid g (edges_laid g h) a b x y
 joins_laid g h (remove_edge a b) _ _ (y₁, (y₂, (y₃, _))) = edge_removed_joins g h a b (so (edge g a b) y₃)
 
 -- ---- drawings laid out

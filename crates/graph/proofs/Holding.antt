@@ -25,7 +25,7 @@ use Rattle.graph.proofs.Order.{present_cases, edge-below, above-min}
 use Rattle.graph.proofs.Heights.{order, edges_laid}
 use Rattle.graph.proofs.Refusals.{parts, passed_passes, number_lt}
 use Rattle.graph.proofs.DrawingCode.{seniors_cover, directs_table}
-use Rattle.graph.proofs.Edits.{Fits, joins_laid}
+use Rattle.graph.proofs.Edits.{Fits, edge_laid, joins_laid}
 
 -- ---- sets as the code makes them
 known_lt : {w a s : ℕ} → a < w → s ≡ when (ltb a w) (single a) → s < 2 ^ w
@@ -137,11 +137,7 @@ handed_on x false o y false w = rw (or-false x, and-true x, and-false o, or-fals
 abbrev Joined : List ℕ → (ℕ → ℕ → Bool) → Type 0
 Joined K joins = Table role_count role_count K × ((t r : ℕ) → t < role_count → r < role_count → member t (at K r) ≡ joins t r)
 
-module _ (g : Graph) {R : ℕ} (b : R < 2 ^ role_count) {D J : List ℕ} (h : Holds (redraw g) R D J) where
-  roles_lt : g.roles < 2 ^ role_count
-  unfolding redraw
-  roles_lt = subst (λ (x : ℕ). x < 2 ^ role_count) h.same_roles b
-
+module _ (g : Graph) {R : ℕ} {D J : List ℕ} (h : Holds (redraw g) R D J) where
   entry_lt : (a : ℕ) {s : ℕ} → s ≡ at J a → s < 2 ^ role_count
   entry_lt a u = subst (λ (i : ℕ). i < 2 ^ role_count) (sym u) (h.table.entry_lt a)
 
@@ -150,12 +146,55 @@ module _ (g : Graph) {R : ℕ} (b : R < 2 ^ role_count) {D J : List ℕ} (h : Ho
   unfolding early
   checked c e = parts (input_checks c) (state_checks g c) (passed_passes (input_checks c ++ state_checks g c) e)
 
-  -- The direct sets and the juniors as they are.
-  abbrev own : Entries D (redraw g).directs
-  own = (h.whole, h.same_directs)
+  -- The direct set of a, altered by a set.
+  altered : {a role : ℕ} → a < role_count → role ≡ when (ltb a role_count) (single a) → (op : ℕ → ℕ → ℕ) {s t : ℕ} {E : List ℕ} → s ≡ t → E ≡ table role_count (λ r. op (at D r) (when (member r role) s))
+      → Entries E (λ r. op ((redraw g).directs r) (for_role a t r))
+  unfolding for_role
+  altered {role = role} ka one op {s} q e =
+      let (n, f) = entries (λ r. op (at D r) (when (member r role) s)) e in
+      (n, λ r k. f r k ∙ rw (h.same_directs r k, known_member ka one r, q))
 
-  abbrev edges : Joined J (redraw g).joins
-  edges = (h.table, h.same_joins)
+  -- Tables with these direct sets, where the edges stay.
+  regranted : {E : List ℕ} {f : ℕ → ℕ} → Entries E f → Holds (record { roles = (redraw g).roles; directs = f; joins = (redraw g).joins }) R E J
+  regranted d = record { same_roles = h.same_roles; whole = d.0; table = h.table; same_directs = d.1; same_joins = h.same_joins; no_circle = h.no_circle }
+
+  -- Kind 4.
+  pub grant_holds : (a p : ℕ) → early g (grant a p) ≡ passed → {role s : ℕ} {E : List ℕ} → role ≡ when (ltb a role_count) (single a) → s ≡ when (ltb p privilege_count) (single p)
+      → E ≡ table role_count (λ r. union (at D r) (when (member r role) s)) → Holds (edit (grant a p) (redraw g)) R E J
+  unfolding edit redraw input_checks Passes
+  grant_holds a p e one s m =
+      let x = (checked (grant a p) e).0 in
+      regranted (altered (number_lt role_count a x.0) one union (known_single (number_lt privilege_count p x.1.0) s) m)
+
+  -- Kind 5.
+  pub withdraw_holds : (a p : ℕ) → early g (withdraw a p) ≡ passed → {role s : ℕ} {E : List ℕ} → role ≡ when (ltb a role_count) (single a) → s ≡ when (ltb p privilege_count) (single p)
+      → E ≡ table role_count (λ r. difference (at D r) (when (member r role) s)) → Holds (edit (withdraw a p) (redraw g)) R E J
+  unfolding edit redraw input_checks Passes
+  withdraw_holds a p e one s m =
+      let x = (checked (withdraw a p) e).0 in
+      regranted (altered (number_lt role_count a x.0) one difference (known_single (number_lt privilege_count p x.1.0) s) m)
+
+  -- Kind 6.
+  pub add_edge_holds : (a b : ℕ) → early g (add_edge a b) ≡ passed → {junior senior : ℕ} {K : List ℕ} → junior ≡ when (ltb a role_count) (single a) → senior ≡ when (ltb b role_count) (single b)
+      → K ≡ exchanged J senior 0 junior → Holds (edit (add_edge a b) (redraw g)) R D K
+  unfolding edit redraw input_checks Passes
+  add_edge_holds a b e {junior} {senior} one two m =
+      let x = (checked (add_edge a b) e).0 in
+      let ka = number_lt role_count a x.0 in
+      let kb = number_lt role_count b x.1.0 in
+      record {
+        same_roles = h.same_roles;
+        whole = h.whole;
+        table = exchanged_table J senior 0 junior m h.table (known_lt ka one);
+        same_directs = h.same_directs;
+        same_joins = λ t r k l. joined-member J senior junior m t r l ∙ rw (h.same_joins t r k l, known_member kb two r, known_member ka one t);
+        no_circle = edge_laid g h.no_circle a b (checked (add_edge a b) e).0 (checked (add_edge a b) e).1;
+      }
+
+module _ (g : Graph) {R : ℕ} (b : R < 2 ^ role_count) {D J : List ℕ} (h : Holds (redraw g) R D J) where
+  roles_lt : g.roles < 2 ^ role_count
+  unfolding redraw
+  roles_lt = subst (λ (x : ℕ). x < 2 ^ role_count) h.same_roles b
 
   -- Tables that have what the edit says hold the edited drawing, since the checks let no circle pass.
   edited : (c : Change) → Fits c → early g c ≡ passed → {S : ℕ} {E K : List ℕ} → S ≡ (edit c (redraw g)).roles → Entries E (edit c (redraw g)).directs → Joined K (edit c (redraw g)).joins → Holds (edit c (redraw g)) S E K
@@ -165,63 +204,27 @@ module _ (g : Graph) {R : ℕ} (b : R < 2 ^ role_count) {D J : List ℕ} (h : Ho
     table = j.0;
     same_directs = d.1;
     same_joins = j.1;
-    no_circle = joins_laid g roles_lt c f (checked c e).0 (checked c e).1;
+    no_circle = joins_laid g roles_lt c f (checked g h c e).0 (checked g h c e).1;
   }
 
-  module _ {a role : ℕ} (ka : a < role_count) (one : role ≡ when (ltb a role_count) (single a)) where
-    -- The direct set of a, altered by a set.
-    altered : (op : ℕ → ℕ → ℕ) {s t : ℕ} {E : List ℕ} → s ≡ t → E ≡ table role_count (λ r. op (at D r) (when (member r role) s)) → Entries E (λ r. op ((redraw g).directs r) (for_role a t r))
-    unfolding for_role
-    altered op {s} q e =
-        let (n, f) = entries (λ r. op (at D r) (when (member r role) s)) e in
-        (n, λ r k. f r k ∙ rw (h.same_directs r k, known_member ka one r, q))
-
-    -- The roles with an edge from a, as the code finds them.
-    seniors_found : {P over : ℕ} → P ≡ union (difference R end_roles) max_alone → over ≡ collect role_count (λ r. member r P && member a (at J r)) → (r : ℕ) → r < role_count → member r over ≡ edge g a r
-    unfolding redraw
-    seniors_found {P} p e r l =
-        ap (member r) e
-        ∙ member-collect r role_count (λ r. member r P && member a (at J r))
-        ∙ rw (passes (ltb r role_count) (lt→ltb r role_count l), h.same_joins a r ka l, p)
-        (same_test (member r (union (difference R end_roles) max_alone) && edge g a r) (edge g a r) (λ t. (both (member r (union (difference R end_roles) max_alone)) (edge g a r) t).1)
-        (λ t. join (member r (union (difference R end_roles) max_alone)) (edge g a r) (subst (λ (x : ℕ). T (member r (union (difference x end_roles) max_alone))) (sym h.same_roles) (to_senior g roles_lt a r t)) t))
-
-  -- Kind 4.
-  pub grant_holds : (a p : ℕ) → early g (grant a p) ≡ passed → {role s : ℕ} {E : List ℕ} → role ≡ when (ltb a role_count) (single a) → s ≡ when (ltb p privilege_count) (single p)
-      → E ≡ table role_count (λ r. union (at D r) (when (member r role) s)) → Holds (edit (grant a p) (redraw g)) R E J
-  unfolding edit redraw Fits input_checks Passes
-  grant_holds a p e one s m =
-      let x = (checked (grant a p) e).0 in
-      edited (grant a p) tt e h.same_roles (altered (number_lt role_count a x.0) one union (known_single (number_lt privilege_count p x.1.0) s) m) edges
-
-  -- Kind 5.
-  pub withdraw_holds : (a p : ℕ) → early g (withdraw a p) ≡ passed → {role s : ℕ} {E : List ℕ} → role ≡ when (ltb a role_count) (single a) → s ≡ when (ltb p privilege_count) (single p)
-      → E ≡ table role_count (λ r. difference (at D r) (when (member r role) s)) → Holds (edit (withdraw a p) (redraw g)) R E J
-  unfolding edit redraw Fits input_checks Passes
-  withdraw_holds a p e one s m =
-      let x = (checked (withdraw a p) e).0 in
-      edited (withdraw a p) tt e h.same_roles (altered (number_lt role_count a x.0) one difference (known_single (number_lt privilege_count p x.1.0) s) m) edges
+  -- The roles with an edge from a, as the code finds them.
+  seniors_found : {a : ℕ} → a < role_count → {P over : ℕ} → P ≡ union (difference R end_roles) max_alone → over ≡ collect role_count (λ r. member r P && member a (at J r))
+      → (r : ℕ) → r < role_count → member r over ≡ edge g a r
+  unfolding redraw
+  seniors_found {a} ka {P} p e r l =
+      ap (member r) e
+      ∙ member-collect r role_count (λ r. member r P && member a (at J r))
+      ∙ rw (passes (ltb r role_count) (lt→ltb r role_count l), h.same_joins a r ka l, p)
+      (same_test (member r (union (difference R end_roles) max_alone) && edge g a r) (edge g a r) (λ t. (both (member r (union (difference R end_roles) max_alone)) (edge g a r) t).1)
+      (λ t. join (member r (union (difference R end_roles) max_alone)) (edge g a r) (subst (λ (x : ℕ). T (member r (union (difference x end_roles) max_alone))) (sym h.same_roles) (to_senior g roles_lt a r t)) t))
 
   -- Kind 2.
   pub add_by_privileges_holds : (a own : ℕ) → own < 2 ^ privilege_count → early g (add_by_privileges a own) ≡ passed → {S role : ℕ} {E : List ℕ} → role ≡ when (ltb a role_count) (single a)
       → E ≡ table role_count (λ r. union (at D r) (when (member r role) own)) → S ≡ union R role → Holds (edit (add_by_privileges a own) (redraw g)) S E J
   unfolding edit redraw Fits input_checks Passes
   add_by_privileges_holds a own lo e one m s =
-      let ka = number_lt role_count a (checked (add_by_privileges a own) e).0.0 in
-      edited (add_by_privileges a own) lo e (s ∙ ap₂ union h.same_roles (known_single ka one)) (altered ka one union refl m) edges
-
-  -- Kind 6.
-  pub add_edge_holds : (a b : ℕ) → early g (add_edge a b) ≡ passed → {junior senior : ℕ} {K : List ℕ} → junior ≡ when (ltb a role_count) (single a) → senior ≡ when (ltb b role_count) (single b)
-      → K ≡ exchanged J senior 0 junior → Holds (edit (add_edge a b) (redraw g)) R D K
-  unfolding edit redraw Fits input_checks Passes
-  add_edge_holds a b e {junior} {senior} one two m =
-      let x = (checked (add_edge a b) e).0 in
-      let ka = number_lt role_count a x.0 in
-      let kb = number_lt role_count b x.1.0 in
-      edited (add_edge a b) tt e h.same_roles own (
-        exchanged_table J senior 0 junior m h.table (known_lt ka one),
-        λ t r k l. joined-member J senior junior m t r l ∙ rw (h.same_joins t r k l, known_member kb two r, known_member ka one t),
-      )
+      let ka = number_lt role_count a (checked g h (add_by_privileges a own) e).0.0 in
+      edited (add_by_privileges a own) lo e (s ∙ ap₂ union h.same_roles (known_single ka one)) (altered g h ka one union refl m) (h.table, h.same_joins)
 
   -- Kind 1.
   pub add_by_place_holds : (a own js ss : ℕ) → own < 2 ^ privilege_count → js < 2 ^ role_count → ss < 2 ^ role_count → early g (add_by_place a own js ss) ≡ passed
@@ -230,8 +233,8 @@ module _ (g : Graph) {R : ℕ} (b : R < 2 ^ role_count) {D J : List ℕ} (h : Ho
       → Holds (edit (add_by_place a own js ss) (redraw g)) S E L
   unfolding edit redraw Fits input_checks Passes
   add_by_place_holds a own js ss lo lj ls e {S} {role} {E} {K} one m n q s =
-      let ka = number_lt role_count a (checked (add_by_place a own js ss) e).0.0 in
-      edited (add_by_place a own js ss) (lo, lj, ls) e (s ∙ ap₂ union h.same_roles (known_single ka one)) (altered ka one union refl m) (
+      let ka = number_lt role_count a (checked g h (add_by_place a own js ss) e).0.0 in
+      edited (add_by_place a own js ss) (lo, lj, ls) e (s ∙ ap₂ union h.same_roles (known_single ka one)) (altered g h ka one union refl m) (
         exchanged_table K ss 0 role q (exchanged_table J role 0 js n h.table lj) (known_lt ka one),
         λ t r k l. joined-member K ss role q t r l ∙ rw (joined-member J role js n t r l, h.same_joins t r k l, known_member ka one r, known_member ka one t, or_assoc),
       )
@@ -243,13 +246,13 @@ module _ (g : Graph) {R : ℕ} (b : R < 2 ^ role_count) {D J : List ℕ} (h : Ho
       → K ≡ exchanged J senior junior under → L ≡ exchanged K over 0 junior → Holds (edit (remove_edge a b) (redraw g)) R D L
   unfolding edit redraw Fits input_checks Passes
   remove_edge_holds a b e {junior} {senior} {under} {P} {over} {K} one two u p o n q =
-      let x = (checked (remove_edge a b) e).0 in
+      let x = (checked g h (remove_edge a b) e).0 in
       let ka = number_lt role_count a x.0 in
       let kb = number_lt role_count b x.1.0 in
-      edited (remove_edge a b) tt e h.same_roles own (
-        exchanged_table K over 0 junior q (exchanged_table J senior junior under n h.table (entry_lt a u)) (known_lt ka one),
+      edited (remove_edge a b) tt e h.same_roles (h.whole, h.same_directs) (
+        exchanged_table K over 0 junior q (exchanged_table J senior junior under n h.table (entry_lt g h a u)) (known_lt ka one),
         λ t r k l. joined-member K over junior q t r l
-            ∙ rw (exchanged_member J senior junior under n t r l, u, h.same_joins t r k l, h.same_joins t a k ka, known_member kb two r, known_member ka one t, seniors_found kb two p o r l, or_assoc),
+            ∙ rw (exchanged_member J senior junior under n t r l, u, h.same_joins t r k l, h.same_joins t a k ka, known_member kb two r, known_member ka one t, seniors_found kb p o r l, or_assoc),
       )
 
   -- Kind 3.
@@ -261,17 +264,17 @@ module _ (g : Graph) {R : ℕ} (b : R < 2 ^ role_count) {D J : List ℕ} (h : Ho
   remove_role_holds a b e {S} {role} {P} {over} {own} {handed} {under} {E} {F} {K} {L} one p o v w m f u n q s =
       edited (remove_role a b) tt e (s ∙ ap₂ difference h.same_roles (known_single ka one))
       ((entries (λ r. difference (at E r) (when (member r role) own)) f).0, directs) (
-        exchanged_table K role under 0 q (exchanged_table J over role under n h.table (entry_lt a u)) (pow_pos role_count),
+        exchanged_table K role under 0 q (exchanged_table J over role under n h.table (entry_lt g h a u)) (pow_pos role_count),
         λ t r k l. taken_member K role under q t r l
-            ∙ rw (exchanged_member J over role under n t r l, u, h.same_joins t r k l, h.same_joins t a k ka, known_member ka one r, known_member ka one t, seniors_found ka one p o r l)
+            ∙ rw (exchanged_member J over role under n t r l, u, h.same_joins t r k l, h.same_joins t a k ka, known_member ka one r, known_member ka one t, seniors_found ka p o r l)
             (left_over (edge g t r) (edge g a r) (edge g t a) (eqb t a) (eqb r a) (λ x. ap (λ (i : ℕ). edge g i r) (test_equal x)) (λ x. ap (λ (i : ℕ). edge g i a) (test_equal x) ∙ no_loop g roles_lt a) (λ x. ap (edge g t) (test_equal x))),
       )
     where
       ka : a < role_count
-      ka = number_lt role_count a (checked (remove_role a b) e).0.0
+      ka = number_lt role_count a (checked g h (remove_role a b) e).0.0
 
       directs : (r : ℕ) → r < role_count → at F r ≡ when (not (eqb r a)) (union (direct g r) (when (eqb b 1 && edge g a r) (direct g a)))
       directs r l =
           (entries (λ r. difference (at E r) (when (member r role) own)) f).1 r l
-          ∙ rw ((entries (λ r. union (at D r) (when (member r over) handed)) m).1 r l, w, v, h.same_directs r l, h.same_directs a ka, known_member ka one r, seniors_found ka one p o r l)
+          ∙ rw ((entries (λ r. union (at D r) (when (member r over) handed)) m).1 r l, w, v, h.same_directs r l, h.same_directs a ka, known_member ka one r, seniors_found ka p o r l)
           (equal_members _ _ (λ t. simp (member-difference, member-union, member-when) (handed_on (member t (direct g r)) (edge g a r) (eqb b 1) (member t (direct g a)) (eqb r a) (λ x. ap (λ (i : ℕ). member t (direct g i)) (test_equal x)))))

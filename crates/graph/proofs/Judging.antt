@@ -1,6 +1,6 @@
 -- What the early returns of a judge say of its list of checks.
 -- Assumes nothing.
-use mathlib.Core.Path.{◌≡◌, refl, sym, ap, ap₂, ◌∙◌}
+use mathlib.Core.Path.{◌≡◌, refl, sym, ap, ◌∙◌}
 use mathlib.Core.Bool.{Bool, true, false, cond, not, ◌&&◌}
 use mathlib.Core.List.{List, [], ◌∷◌, ◌++◌}
 use Prim.Native.Nat.{ℕ}
@@ -9,10 +9,10 @@ use Rattle.sets.specs.Sets.{member}
 use Rattle.graph.specs.Graph.{Graph, role_count, present}
 use Rattle.graph.specs.Refusing.{Check, Verdict, passed, refused, verdict, keep}
 use Rattle.graph.specs.Searching.{Found, nothing, found, lowest_found}
-use Rattle.graph.specs.Reading.{drawn_from, read_verdict, read_found}
+use Rattle.graph.specs.Reading.{drawn_from, read_verdict, read_found, read_attempt}
 use Rattle.graph.specs.declared.Refusal.{Refusal}
-use Rattle.graph.specs.declared.Verdict.TheVariants.{the_data, Passed, Refused}
-use Rattle.graph.specs.declared.Found.TheVariants as founds
+use Rattle.graph.specs.declared.Redrawn.{Redrawn}
+use Rattle.std.specs.Prelude.{Option, Some, None, Result, Ok, Err}
 
 -- The first check holds, or the others decide.
 module _ (c : Check) (l : List Check) where
@@ -46,18 +46,17 @@ verdict-append (c ∷ l) m = go c.holds (verdict-append l m)
     go false e = e
 
 -- It refuses, and decides; or it passed, and the checks after them decide.
-module _ (l m : List Check) {v : the_data} (e : read_verdict v ≡ verdict l) where
-  pub refused_first : {r : Refusal} → v ≡ Refused r → read_verdict v ≡ verdict (l ++ m)
+module _ (l m : List Check) {v : Result (Unit {0}) Refusal} (e : read_verdict v ≡ verdict l) where
+  pub refused_first : {r : Refusal} → v ≡ Err r → read_verdict (Err r) ≡ verdict (l ++ m)
   unfolding read_verdict after
-  refused_first {r} d =
-      ap read_verdict d ∙ ap (λ (w : Verdict). after w (verdict m)) (sym (ap read_verdict d) ∙ e) ∙ sym (verdict-append l m)
+  refused_first {r} d = ap (λ (w : Verdict). after w (verdict m)) (sym (ap read_verdict d) ∙ e) ∙ sym (verdict-append l m)
 
-  pub passed_first : v ≡ Passed → verdict (l ++ m) ≡ verdict m
+  pub passed_first : v ≡ Ok tt → verdict (l ++ m) ≡ verdict m
   unfolding read_verdict after
   passed_first d = verdict-append l m ∙ ap (λ (w : Verdict). after w (verdict m)) (sym e ∙ ap read_verdict d)
 
 -- It passed, and the check after it refuses, or is the last one and does not.
-module _ (l : List Check) (c : Check) (m : List Check) {v : the_data} (e : read_verdict v ≡ verdict l) (d : v ≡ Passed) where
+module _ (l : List Check) (c : Check) (m : List Check) {v : Result (Unit {0}) Refusal} (e : read_verdict v ≡ verdict l) (d : v ≡ Ok tt) where
   pub then_stops : c.holds ≡ true → refused c.number c.place ≡ verdict (l ++ (c ∷ m))
   then_stops h = sym (passed_first l (c ∷ m) e d ∙ stops c m h)
 
@@ -65,18 +64,15 @@ module _ (l : List Check) (c : Check) (m : List Check) {v : the_data} (e : read_
   then_goes h = sym (passed_first l (c ∷ m) e d ∙ moves_on c m h)
 
 -- ---- what a call leaves
-module _ (l : List Check) (g h : Graph) {v : the_data} (e : read_verdict v ≡ verdict l) where
-  pub stays : {r : Refusal} → v ≡ Refused r → (read_verdict v, g) ≡ keep (verdict l) g h
-  unfolding read_verdict keep
-  stays {r} d =
-      let q : verdict l ≡ refused r.number r.place = sym e ∙ ap read_verdict d in
-      ap (λ (w : Verdict). (w, g)) (e ∙ q) ∙ ap (λ (w : Verdict). keep w g h) (sym q)
+-- It refuses, and the graph stays.
+pub stays : (l : List Check) (g h : Graph) {v : Result (Unit {0}) Refusal} → read_verdict v ≡ verdict l → {r : Refusal} → v ≡ Err r → read_attempt g (Err r) ≡ keep (verdict l) g h
+unfolding read_verdict read_attempt keep
+stays l g h e {r} d = sym (ap (λ (w : Verdict). keep w g h) (sym e ∙ ap read_verdict d))
 
-  pub becomes : v ≡ Passed → {k : Graph} → k ≡ h → (read_verdict v, k) ≡ keep (verdict l) g h
-  unfolding read_verdict keep
-  becomes d p =
-      let q : verdict l ≡ passed = sym e ∙ ap read_verdict d in
-      ap₂ (λ (w : Verdict) (k : Graph). (w, k)) (e ∙ q) p ∙ ap (λ (w : Verdict). keep w g h) (sym q)
+-- It passed, and leaves the graph after it.
+pub becomes : (l : List Check) (g h : Graph) {v : Result (Unit {0}) Refusal} → read_verdict v ≡ verdict l → v ≡ Ok tt → (d : Redrawn) → drawn_from d.roles d.sets ≡ h → read_attempt g (Ok d) ≡ keep (verdict l) g h
+unfolding read_verdict read_attempt keep
+becomes l g h e k d p = ap (λ (m : Graph). (passed, m)) p ∙ sym (ap (λ (w : Verdict). keep w g h) (sym e ∙ ap read_verdict k))
 
 -- ---- presence
 -- Being present depends on the roles alone.
@@ -108,17 +104,17 @@ some_passes k f = go (any k f)
     go false = refl
 
 -- A search found a place, the lowest that passes, or nothing.
-module _ (k : ℕ) (f : ℕ → Bool) {x : founds.the_data} (e : read_found x ≡ lowest_found k f) where
-  pub place_found : {p : ℕ} → x ≡ founds.At p → any k f ≡ true
+module _ (k : ℕ) (f : ℕ → Bool) {x : Option ℕ} (e : read_found x ≡ lowest_found k f) where
+  pub place_found : {p : ℕ} → x ≡ Some p → any k f ≡ true
   unfolding is_found read_found
-  place_found d = sym (ap is_found e ∙ some_passes k f) ∙ ap (λ (y : founds.the_data). is_found (read_found y)) d
+  place_found d = sym (ap is_found e ∙ some_passes k f) ∙ ap (λ (y : Option ℕ). is_found (read_found y)) d
 
-  pub place_none : x ≡ founds.Nothing → any k f ≡ false
+  pub place_none : x ≡ None → any k f ≡ false
   unfolding is_found read_found
-  place_none d = sym (ap is_found e ∙ some_passes k f) ∙ ap (λ (y : founds.the_data). is_found (read_found y)) d
+  place_none d = sym (ap is_found e ∙ some_passes k f) ∙ ap (λ (y : Option ℕ). is_found (read_found y)) d
 
-  pub place_lowest : {p : ℕ} → x ≡ founds.At p → p ≡ lowest k f
+  pub place_lowest : {p : ℕ} → x ≡ Some p → p ≡ lowest k f
   unfolding place_of read_found lowest_found
   place_lowest d =
-      sym (ap (λ (y : founds.the_data). place_of (read_found y)) d) ∙ ap place_of e
+      sym (ap (λ (y : Option ℕ). place_of (read_found y)) d) ∙ ap place_of e
       ∙ ap (λ (b : Bool). place_of (cond b (found (lowest k f)) nothing)) (place_found d)

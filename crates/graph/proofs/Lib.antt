@@ -1,7 +1,6 @@
 -- ---- tables and loops over them
 pub mod Tables
 pub mod PrivilegeTables
-pub mod Emptiness
 pub mod Loops
 pub mod ExchangeLoops
 -- ---- checks and verdicts

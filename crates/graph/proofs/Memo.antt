@@ -1,26 +1,26 @@
 -- Closing with a table of the sets that are done: what one role more, one junior more and the end of each loop give.
 -- Assumes nothing.
 use mathlib.Core.Path.{◌≡◌, sym, ap, ◌∙◌, subst}
-use mathlib.Core.Bool.{Bool, true, not}
-use mathlib.Core.Logic.{◌≢◌, inl, inr}
-use mathlib.Core.List.{List}
+use mathlib.Core.Bool.{Bool, true}
+use mathlib.Core.Logic.{inl, inr}
+use mathlib.Core.List.{List, [], ◌∷◌, ◌++◌}
 use Prim.Native.Nat.{ℕ, ◌-◌, ◌<◌, ◌^◌}
 use native.Mathlib.Decide.{ℕ_discrete}
 use native.Mathlib.Omega.{arith}
 use lib.ListN.{length, set, length-set}
 use lib.Seq.{get_or-set_same, get_or-set_other}
-use lib.Dec.{T, not_T, lit<, eqb}
-use Rattle.sets.specs.Sets.{empty, member, single, union, difference, when, collect, gather, lowest_member, without_lowest}
-use Rattle.sets.proofs.Tests.{join, test_equal}
+use lib.Dec.{T, lit<, eqb}
+use Rattle.sets.specs.Sets.{empty, member, single, union, difference, when, collect, gather, members}
+use Rattle.sets.proofs.Tests.{either, decide, test_equal}
 use Rattle.sets.proofs.Laws.{member-lt, gather-lt, union-empty}
 use Rattle.sets.proofs.Members.{in_union, union_left, union_right, in_difference, difference_in, in_single, single_in, in_empty, in_gather, collect_in, no_members}
-use Rattle.sets.proofs.Walks.{member_next}
+use Rattle.sets.proofs.Ascending.{seen, seen_none, seen_more, seen_members}
 use Rattle.graph.specs.Tables.{at, table}
 use Rattle.graph.specs.Graph.{role_count}
 use Rattle.graph.specs.Working.{Ending, Acyclic, closed_set, Memo}
 use Rattle.graph.proofs.Tables.{length-table, at-table, table_ext}
 use Rattle.graph.proofs.Acyclic.{closed_set_equation}
-use Rattle.graph.proofs.Loops.{Left, left_all, left_next, Gathering, gathering_none, gathering_next}
+use Rattle.graph.proofs.Loops.{Gathering, gathering_none, gathering_next}
 
 -- What is gathered where no number passes.
 gather-empty : (n : ℕ) (c : ℕ → Bool) (f : ℕ → ℕ) → ((i : ℕ) → T (c i) → ⊥) → gather n c f ≡ 0
@@ -64,20 +64,20 @@ role_closed {directs} {juniors} {sets} {done} {r} {v = v} before ending l w kept
     )
 
 -- ---- the loop of the gatherer
--- The juniors of all that are visited are done, and s joins their closed sets.
-pub record Joined (directs juniors : List ℕ) (before all : ℕ) (sets : List ℕ) (done s rest : ℕ) : Type 0 where
-  pub sum : Gathering (closed_set directs juniors) all rest s
+-- The juniors that were seen are done, and s joins their closed sets.
+pub record Joined (directs juniors : List ℕ) (before : ℕ) (sets : List ℕ) (done s : ℕ) (xs : List ℕ) : Type 0 where
+  pub sum : Gathering (closed_set directs juniors) xs s
   pub memo : Memo directs juniors done sets
   pub kept : (n : ℕ) → T (member n before) → T (member n done)
 
-pub joined_none : {directs juniors sets : List ℕ} {before all : ℕ} → all < 2 ^ role_count → Memo directs juniors before sets → Joined directs juniors before all sets before 0 all
-joined_none {directs} {juniors} {all = all} h w = record { sum = gathering_none (closed_set directs juniors) all h; memo = w; kept = λ n m. m }
+pub joined_none : {directs juniors sets : List ℕ} {before s : ℕ} → s ≡ 0 → Memo directs juniors before sets → Joined directs juniors before sets before s []
+joined_none {directs} {juniors} e w = record { sum = subst (Gathering (closed_set directs juniors) []) (sym e) (gathering_none (closed_set directs juniors)); memo = w; kept = λ n m. m }
 
-pub joined_next : {directs juniors sets then : List ℕ} {before all done s rest t more x next : ℕ} → Joined directs juniors before all sets done s rest → rest ≢ 0
-    → t ≡ lowest_member role_count rest → Memo directs juniors more then → ((n : ℕ) → T (member n done) → T (member n more)) → T (member t more)
-    → x ≡ union s (at then t) → next ≡ without_lowest role_count rest → Joined directs juniors before all then more x next
-joined_next {s = s} {t = t} w some e memo kept m f g = record {
-  sum = gathering_next w.sum some e g (f ∙ ap (union s) (memo.right t m));
+pub joined_next : {directs juniors sets then xs : List ℕ} {before done s more x : ℕ} → Joined directs juniors before sets done s xs → (t : ℕ)
+    → Memo directs juniors more then → ((n : ℕ) → T (member n done) → T (member n more)) → T (member t more) → x ≡ union s (at then t)
+    → Joined directs juniors before then more x (xs ++ (t ∷ []))
+joined_next {s = s} w t memo kept m f = record {
+  sum = gathering_next w.sum t (f ∙ ap (union s) (memo.right t m));
   memo = memo;
   kept = λ n b. kept n (w.kept n b);
 }
@@ -91,17 +91,16 @@ all_in : (r : ℕ) → r < role_count → T (member r all_roles)
 unfolding collect union when single
 all_in r l = collect_in r role_count (λ i. true) l tt
 
--- Every role that is not in rest is done.
-pub record Doing (directs juniors : List ℕ) (present : ℕ) (sets : List ℕ) (done rest : ℕ) : Type 0 where
-  pub left : Left role_count present rest
+-- Every role that is not present or was seen is done.
+pub record Doing (directs juniors : List ℕ) (present : ℕ) (sets : List ℕ) (done : ℕ) (xs : List ℕ) : Type 0 where
   pub memo : Memo directs juniors done sets
-  pub seen : (r : ℕ) → r < role_count → (T (member r rest) → ⊥) → T (member r done)
+  pub outside : (r : ℕ) → r < role_count → (T (member r present) → ⊥) → T (member r done)
+  pub did : (r : ℕ) → T (seen xs r) → T (member r done)
 
 -- A role that is not present is done from the start.
-pub doing_none : {directs juniors sets : List ℕ} {present done : ℕ} → Acyclic present juniors → present < 2 ^ role_count
-    → length sets ≡ role_count → sets ≡ directs → done ≡ difference all_roles present → Doing directs juniors present sets done present
-doing_none {directs} {juniors} {present = present} w h k e f = record {
-  left = left_all role_count present h;
+pub doing_none : {directs juniors sets : List ℕ} {present done : ℕ} → Acyclic present juniors → length sets ≡ role_count → sets ≡ directs → done ≡ difference all_roles present
+    → Doing directs juniors present sets done []
+doing_none {directs} {juniors} {present = present} w k e f = record {
   memo = record {
     whole = k;
     right = λ r m.
@@ -109,30 +108,28 @@ doing_none {directs} {juniors} {present = present} w h k e f = record {
         let l = member-lt role_count r all_roles (lit< tt) i in
         ap (λ (t : List ℕ). at t r) e ∙ sym (closed_alone directs juniors w.ending r l (w.outside r l o));
   };
-  seen = λ r l o. subst (λ (s : ℕ). T (member r s)) (sym f) (difference_in r all_roles present (all_in r l) o);
+  outside = λ r l o. subst (λ (s : ℕ). T (member r s)) (sym f) (difference_in r all_roles present (all_in r l) o);
+  did = λ r t. absurd (subst T (seen_none r) t);
 }
 
-pub doing_next : {directs juniors sets then : List ℕ} {present done rest t more next : ℕ} → Doing directs juniors present sets done rest → rest ≢ 0
-    → t ≡ lowest_member role_count rest → Memo directs juniors more then
-    → ((n : ℕ) → T (member n done) → T (member n more)) → T (member t more) → next ≡ without_lowest role_count rest
-    → Doing directs juniors present then more next
-doing_next {present = present} {rest = rest} {t = t} {more = more} {next = next} w some e memo kept m g = record {
-  left = subst (Left role_count present) (sym g) (left_next w.left some);
+pub doing_next : {directs juniors sets then xs : List ℕ} {present done more : ℕ} → Doing directs juniors present sets done xs → (t : ℕ) → Memo directs juniors more then
+    → ((n : ℕ) → T (member n done) → T (member n more)) → T (member t more)
+    → Doing directs juniors present then more (xs ++ (t ∷ []))
+doing_next {xs = xs} {more = more} w t memo kept m = record {
   memo = memo;
-  seen = λ r l o.
-      elim (ℕ_discrete r t) [
-        | yes q ↦ subst (λ (i : ℕ). T (member i more)) (sym q) m
-        | no d ↦ kept r (w.seen r l (λ x. o (on r d x)))
+  outside = λ r l o. kept r (w.outside r l o);
+  did = λ r u.
+      elim (either (seen xs r) (eqb t r) (subst T (seen_more xs t r) u)) [
+        | inl v ↦ kept r (w.did r v)
+        | inr e ↦ subst (λ (i : ℕ). T (member i more)) (test_equal e) m
       ];
 }
-  where
-    on : (r : ℕ) → r ≢ t → T (member r rest) → T (member r next)
-    on r d x =
-        subst T (sym (ap (member r) g ∙ member_next role_count rest r))
-        (join (member r rest) (not (eqb r (lowest_member role_count rest))) x (not_T (eqb r (lowest_member role_count rest)) (λ q. d (test_equal q ∙ sym e))))
 
-pub doing_done : {directs juniors sets : List ℕ} {present done rest : ℕ} → Doing directs juniors present sets done rest → rest ≡ 0
+pub doing_done : {directs juniors sets xs : List ℕ} {present done : ℕ} → Doing directs juniors present sets done xs → present < 2 ^ role_count → xs ≡ members role_count present
     → sets ≡ table role_count (closed_set directs juniors)
-doing_done {sets = sets} w e =
+doing_done {sets = sets} {xs} {present} {done} w h e =
     table_ext role_count sets _ w.memo.whole (length-table role_count _)
-    (λ r l. w.memo.right r (w.seen r l (λ m. in_empty r (subst (λ (s : ℕ). T (member r s)) e m))) ∙ sym (at-table role_count r _ l))
+    (λ r l. w.memo.right r (elim (decide (member r present)) [ inl m ↦ w.did r (subst T (sym (all r)) m) | inr o ↦ w.outside r l o ]) ∙ sym (at-table role_count r _ l))
+  where
+    all : (r : ℕ) → seen xs r ≡ member r present
+    all r = ap (λ (ys : List ℕ). seen ys r) e ∙ seen_members role_count present h r

@@ -144,15 +144,18 @@ under_transitive g r s t (inside a b i) (from_min e' d') = absurd (let l = (ordi
 under_transitive g r s t (inside a b i) (to_max e' d') = to_max e' (let l = (ordinary_parts g r a).0 in omega arith)
 under_transitive g r s t (inside a b i) (inside a' b' i') = inside a b' (strictly_transitive (effective g r) (effective g s) (effective g t) i i')
 
+pub below_transitive : (g : Graph) (r s t : ℕ) → T (below g r s) → T (below g s t) → T (below g r t)
+below_transitive g r s t x y =
+    let (p, _, u) = below_cases g r s x in
+    let (_, q, v) = below_cases g s t y in
+    below_join g r t p q (under_transitive g r s t u v)
+
 pub below_order : (g : Graph) → g.roles < 2 ^ role_count → StrictOrder role_count (present g) (below g)
 below_order g h = record {
   bounded = λ r t. present_lt g r h t;
   between_present = λ r s t. ((below_cases g r s t).0, (below_cases g r s t).1);
   irreflexive = λ r t. under_irreflexive g r (below_cases g r r t).2;
-  transitive = λ r s t x y.
-      let (p, _, u) = below_cases g r s x in
-      let (_, q, v) = below_cases g s t y in
-      below_join g r t p q (under_transitive g r s t u v);
+  transitive = below_transitive g;
 }
 
 pub min-below : (g : Graph) (s : ℕ) → T (present g s) → s ≢ min_role → T (below g min_role s)

@@ -17,7 +17,7 @@ use Rattle.graph.specs.Drawing.{below, edge, direct}
 use Rattle.graph.specs.Editing.{for_role}
 use Rattle.graph.specs.Refusing.{at_or_below}
 use Rattle.graph.specs.Invariants.{Formed}
-use Rattle.graph.proofs.Order.{not-above-max, edge-below}
+use Rattle.graph.proofs.Order.{below_transitive, not-above-max, edge-below}
 use Rattle.graph.specs.Working.{has_role, JoinsLaid}
 use Rattle.graph.proofs.Closing.{DirectsLaid}
 use Rattle.graph.proofs.Heights.{order, ordinary_below, raised, edges_laid}
@@ -65,13 +65,13 @@ unfolding at_or_below
 at_itself g r = or_left (eqb r r) (below g r r) (eqb_refl r)
 
 -- What is at or below a role is so for all that lie above it.
-pub at_or_below_up : (g : Graph) → g.roles < 2 ^ role_count → (b t r : ℕ) → T (below g t r) → T (at_or_below g b t) → T (at_or_below g b r)
+pub at_or_below_up : (g : Graph) (b t r : ℕ) → T (below g t r) → T (at_or_below g b t) → T (at_or_below g b r)
 unfolding at_or_below
-at_or_below_up g w b t r x h =
+at_or_below_up g b t r x h =
     or_right (eqb b r) (below g b r)
     (elim (at_or_below_cases g b t h) [
       | inl e ↦ subst (λ (i : ℕ). T (below g i r)) (sym e) x
-      | inr y ↦ (order g w).transitive b t r y x
+      | inr y ↦ below_transitive g b t r y x
     ])
 
 module _ (g : Graph) (w : g.roles < 2 ^ role_count) where
@@ -129,7 +129,7 @@ module _ (g : Graph) (w : g.roles < 2 ^ role_count) where
       upper_up t r x h =
           elim (upper_cases t h) [
             | inl e ↦ absurd (not-above-max g r (subst (λ (i : ℕ). T (below g i r)) e x))
-            | inr (s, m, b) ↦ senior_upper s r m (at_or_below_up g w s t r x b)
+            | inr (s, m, b) ↦ senior_upper s r m (at_or_below_up g s t r x b)
           ]
 
       not_new : T (upper a) → ⊥

@@ -6,7 +6,9 @@ pub mod Closing
 pub mod Editing
 pub mod Refusing
 pub mod Searching
+pub mod Reasons
 pub mod Reading
 pub mod Working
+pub mod Laying
 pub mod Invariants
 pub mod Computes

@@ -1,15 +1,14 @@
 -- How the code's values are read as the paper's: sets, graphs, verdicts, what searches find, and changes.
-use Rattle.std.specs.Prelude.{List, [], ℕ, replicate}
-use Rattle.sets.specs.Sets.{empty}
-use Rattle.graph.specs.Graph.{Graph, role_count}
+use Rattle.std.specs.Prelude.{◌≡◌, refl, List, [], ℕ, Option, Some, None, Result, Ok, Err}
+use Rattle.graph.specs.Graph.{Graph}
 use Rattle.graph.specs.Editing.{Change, add_by_place, add_by_privileges, remove_role, grant, withdraw, add_edge, remove_edge}
 use Rattle.graph.specs.Refusing.{Verdict, passed, refused}
+use Rattle.graph.specs.Reasons.{reason_number}
 use Rattle.graph.specs.Searching.{Found, nothing, found}
 use Rattle.graph.specs.declared.PrivilegeSet as privilege-set-struct
-use Rattle.graph.specs.declared.Verdict as verdict-enum
-use Rattle.graph.specs.declared.Verdict.TheVariants as verdicts
-use Rattle.graph.specs.declared.Found as found-enum
-use Rattle.graph.specs.declared.Found.TheVariants as founds
+use Rattle.graph.specs.declared.Refusal.{Refusal}
+use Rattle.graph.specs.declared.RoleGraph as role-graph-struct
+use Rattle.graph.specs.declared.Redrawn as redrawn-struct
 use Rattle.graph.specs.declared.Removal as removal-enum
 use Rattle.graph.specs.declared.Removal.TheVariants as removals
 use Rattle.graph.specs.declared.Change as change-enum
@@ -23,9 +22,10 @@ read_set s = s.word
 unfoldable pub sets_in : List ℕ → List ℕ
 sets_in words = words
 
--- The words of a table without a set, where a change is refused.
-abbrev pub no_sets : List ℕ
-no_sets = replicate role_count empty
+-- Each set takes one word.
+pub word_each : (l : List ℕ) → sets_in l ≡ l
+unfolding sets_in
+word_each l = refl
 
 -- The graph of these roles and sets, whatever the conflicts: its order, edges and direct privileges do not depend on them.
 abbrev pub drawn_from : ℕ → List ℕ → Graph
@@ -35,15 +35,24 @@ drawn_from roles sets = record { roles = roles; sets = sets_in sets; conflicts =
 abbrev pub graph_of : ℕ → List ℕ → List ℕ → Graph
 graph_of roles sets conflicts = record { roles = roles; sets = sets_in sets; conflicts = sets_in conflicts }
 
+-- The graph of the roles and sets that are lent.
+abbrev pub drawn : role-graph-struct.RoleGraph → Graph
+drawn g = drawn_from g.roles g.sets.now
+
 -- A verdict's number and place.
-unfoldable pub read_verdict : verdict-enum.Verdict → Verdict
-read_verdict verdicts.Passed = passed
-read_verdict (verdicts.Refused r) = refused r.number r.place
+unfoldable pub read_verdict : Result (Unit {0}) Refusal → Verdict
+read_verdict (Ok _) = passed
+read_verdict (Err r) = refused (reason_number r.reason) r.place
 
 -- What a search finds.
-unfoldable pub read_found : found-enum.Found → Found
-read_found founds.Nothing = nothing
-read_found (founds.At n) = found n
+unfoldable pub read_found : Option ℕ → Found
+read_found None = nothing
+read_found (Some n) = found n
+
+-- What a change of the graph g comes to: its verdict, and the graph after it.
+unfoldable pub read_attempt : Graph → Result redrawn-struct.Redrawn Refusal → Verdict × Graph
+read_attempt g (Ok d) = (passed, drawn_from d.roles d.sets)
+read_attempt g (Err r) = (refused (reason_number r.reason) r.place, g)
 
 -- A removal's b: 0 where the direct privileges are dropped, 1 where they go to the immediate seniors.
 unfoldable pub read_removal : removal-enum.Removal → ℕ

@@ -7,8 +7,9 @@ ghost use Rattle.graph.specs.Closing.{gathered};
 ghost use Rattle.graph.specs.Reading.{read_set, sets_in};
 ghost use Rattle.graph.specs.Working.{Ending, Acyclic, closed_set, Memo};
 
-use crate::table::{SetTable, copied_sets, entry, roles_at, store};
-use crate::{ALL_ROLES, PrivilegeSet, privileges};
+use crate::table::{Table, entry, store};
+use crate::{ALL_ROLES, PrivilegeSet};
+use sets::Set;
 
 // What gathering gives: the roles that are done, and the gathered set.
 #[derive(Drop)]
@@ -19,13 +20,7 @@ struct Gathered {
 
 // Puts the set of role r into its entry, unless that is done, and gives the roles that are done.
 #[cycle(close_role_gather)]
-fn close_role(
-    directs: &SetTable,
-    juniors: &[u64; 64],
-    sets: &mut SetTable,
-    done: u64,
-    r: usize,
-) -> u64
+fn close_role(directs: &Table, juniors: &Table, sets: &mut Table, done: u64, r: usize) -> u64
     requires is_role { r < role_count }
     requires ending { Ending juniors.now }
     requires memo { Memo (sets_in directs.now) juniors.now done (sets_in sets.old) }
@@ -33,24 +28,19 @@ fn close_role(
     ensures kept { (n : ℕ) → T (spec.member n done) → T (spec.member n result) }
     ensures is_done { T (spec.member r result) }
 {
-    if sets::member(r, done) {
+    if done.member(r) {
         return done;
     }
     let g = gather(directs, juniors, sets, done, r);
     let held = g.set;
-    store(sets, r, privileges::union(entry(directs, r), held));
-    sets::union(g.done, sets::single(r))
+    let own: PrivilegeSet = entry(directs, r);
+    store(sets, r, own.union(held));
+    g.done.union(u64::single(r))
 }
 
 // Does each junior of role r, and joins their sets.
 #[cycle(close_role_gather)]
-fn gather(
-    directs: &SetTable,
-    juniors: &[u64; 64],
-    sets: &mut SetTable,
-    before: u64,
-    r: usize,
-) -> Gathered
+fn gather(directs: &Table, juniors: &Table, sets: &mut Table, before: u64, r: usize) -> Gathered
     requires is_role { r < role_count }
     requires ending { Ending juniors.now }
     requires memo { Memo (sets_in directs.now) juniors.now before (sets_in sets.old) }
@@ -59,29 +49,24 @@ fn gather(
     ensures gathered { read_set result.set ≡ spec.gather role_count (λ t. spec.member t (at juniors.now r)) (closed_set (sets_in directs.now) juniors.now) }
 {
     let mut done = before;
-    let mut set = privileges::empty();
-    let mut rest = roles_at(juniors, r);
-    while rest != 0 {
-        let t = sets::lowest_member(rest) as usize;
-        done = close_role(directs, juniors, sets, done, t);
-        set = privileges::union(set, entry(sets, t));
-        rest = sets::without_lowest(rest);
+    let mut set = PrivilegeSet::empty();
+    let under: u64 = entry(juniors, r);
+    for t in under.members() {
+        done = close_role(directs, juniors, sets, done, t as usize);
+        set = set.union(entry(sets, t as usize));
     }
     Gathered { done, set }
 }
 
 // The effective set of each role; a role that is not present has its direct privileges alone.
-pub(crate) fn close(present: u64, directs: &SetTable, juniors: &[u64; 64]) -> SetTable
+pub(crate) fn close(present: u64, directs: &Table, juniors: &Table) -> Table
     requires { Acyclic present juniors.now }
     ensures { sets_in result ≡ table role_count (gathered (at (sets_in directs.now)) (λ t r. spec.member t (at juniors.now r)) role_count) }
 {
-    let mut sets = copied_sets(directs);
-    let mut done = sets::difference(ALL_ROLES, present);
-    let mut rest = present;
-    while rest != 0 {
-        let r = sets::lowest_member(rest) as usize;
-        done = close_role(directs, juniors, &mut sets, done, r);
-        rest = sets::without_lowest(rest);
+    let mut sets = *directs;
+    let mut done = ALL_ROLES.difference(present);
+    for r in present.members() {
+        done = close_role(directs, juniors, &mut sets, done, r as usize);
     }
     sets
 }

@@ -1,136 +1,75 @@
-// Tables by number. A table of privilege sets is reached by these functions alone, whatever words it takes; a table of role sets has a word an entry.
-ghost use Rattle.std.specs.Prelude.{◌≡◌, length, set, ◌&&◌};
+// Tables by number, with a set for each: of privileges, whatever words these take, or of roles.
+ghost use Rattle.std.specs.Prelude.{◌≡◌, set, ◌&&◌};
 ghost use Rattle.sets.specs.Sets.{member, union, difference, when, collect, gather};
 ghost use Rattle.graph.specs.Graph.{role_count};
 ghost use Rattle.graph.specs.Tables as spec;
-ghost use Rattle.graph.specs.Reading.{read_set, sets_in};
 
-use crate::{PrivilegeSet, privileges};
+use sets::Set;
 
-// The words of a table with a set of privileges for each role.
-pub(crate) type SetTable = [u64; 64];
+// The words of a table with a set for each role.
+pub(crate) type Table = [u64; 64];
 
-// Entry n of a table of privilege sets; beyond its end the empty set.
-pub fn entry(table: &[u64], n: usize) -> PrivilegeSet
-    ensures { read_set result ≡ spec.at (sets_in table.now) n }
+// A row of a table that is to be stored: its number and its set.
+#[derive(Clone, Copy)]
+pub struct Row<S> {
+    pub at: usize,
+    pub set: S,
+}
+
+// Row n of a table; beyond its end the empty set.
+pub fn entry<S: Set>(table: &[u64], n: usize) -> S
+    ensures { S.read result ≡ spec.at (S.sets_in table.now) n }
 {
     if n < table.len() {
-        PrivilegeSet { word: table[n] }
+        S::of(table[n])
     } else {
-        privileges::empty()
+        S::empty()
     }
 }
 
-// Stores entry n of a table of privilege sets; beyond its end nothing.
-pub fn store(table: &mut [u64], n: usize, s: PrivilegeSet)
-    ensures { sets_in table.new ≡ set (sets_in table.old) n (read_set s) }
+// Stores entry n of a table; beyond its end nothing.
+pub fn store<S: Set>(table: &mut [u64], n: usize, s: S)
+    ensures { S.sets_in table.new ≡ set (S.sets_in table.old) n (S.read s) }
 {
     if n < table.len() {
-        table[n] = s.word;
+        table[n] = s.word();
     }
 }
 
-// The union of the privilege sets of the roles in `all`.
-pub fn union_at(table: &[u64], all: u64) -> PrivilegeSet
-    ensures { read_set result ≡ gather role_count (λ r. member r all) (spec.at (sets_in table.now)) }
+// The union of the sets of the roles in `all`.
+pub fn union_at<S: Set>(table: &[u64], all: u64) -> S
+    ensures { S.read result ≡ gather role_count (λ r. member r all) (spec.at (S.sets_in table.now)) }
 {
-    let mut found = privileges::empty();
-    let mut rest = all;
-    while rest != 0 {
-        let r = sets::lowest_member(rest) as usize;
-        found = privileges::union(found, entry(table, r));
-        rest = sets::without_lowest(rest);
-    }
-    found
+    all.members().fold(S::empty(), |found, r| found.union(entry(table, r as usize)))
 }
 
-// The table of privilege sets itself, with its length.
-pub(crate) fn copied_sets(table: &SetTable) -> SetTable
-    ensures { (result ≡ table.now) × (length (sets_in result) ≡ role_count) }
+// The sets of all roles; beyond the end of the table the empty set.
+pub fn whole<S: Set>(table: &[u64]) -> [u64; 64]
+    ensures { S.sets_in result ≡ spec.table role_count (spec.at (S.sets_in table.now)) }
 {
-    let _whole = &table[..];
-    *table
-}
-
-// The privilege sets of all roles; beyond the end of the table the empty set.
-pub(crate) fn whole(table: &[u64]) -> SetTable
-    ensures { sets_in result ≡ spec.table role_count (spec.at (sets_in table.now)) }
-{
-    let mut all: SetTable = [0u64; 64];
+    let mut all: Table = [0u64; 64];
     for i in 0..64usize {
-        store(&mut all, i, entry(table, i));
+        all[i] = entry::<S>(table, i).word();
     }
     all
 }
 
-// Entry n of a table of role sets; beyond its end the empty set.
-pub fn roles_at(table: &[u64], n: usize) -> u64
-    ensures { result ≡ spec.at table.now n }
-{
-    if n < table.len() { table[n] } else { 0 }
-}
-
-// Stores entry n of a table of role sets; beyond its end nothing.
-pub fn store_roles(table: &mut [u64], n: usize, s: u64)
-    ensures { table.new ≡ set table.old n s }
-{
-    if n < table.len() {
-        table[n] = s;
-    }
-}
-
 // In the set of each role of `into`, takes the members of `out` away and joins those of `put`.
-pub(crate) fn exchange_sets(table: &mut SetTable, into: u64, out: PrivilegeSet, put: PrivilegeSet)
-    ensures { sets_in table.new ≡ spec.table role_count (λ r. union (difference (spec.at (sets_in table.old) r) (when (member r into) (read_set out))) (when (member r into) (read_set put))) }
+pub(crate) fn exchange<S: Set>(table: &mut Table, into: u64, out: S, put: S)
+    ensures { S.sets_in table.new ≡ spec.table role_count (λ r. union (difference (spec.at (S.sets_in table.old) r) (when (member r into) (S.read out))) (when (member r into) (S.read put))) }
 {
-    *table = copied_sets(table);
-    let mut rest = into;
-    while rest != 0 {
-        let r = sets::lowest_member(rest) as usize;
-        let old = entry(table, r);
-        store(
-            table,
-            r,
-            privileges::union(privileges::difference(old, out), put),
-        );
-        rest = sets::without_lowest(rest);
-    }
-}
-
-// The table of role sets itself, with its length.
-fn copied_roles(table: &[u64; 64]) -> [u64; 64]
-    ensures { (result ≡ table.now) × (length result ≡ role_count) }
-{
-    let _whole = &table[..];
-    *table
-}
-
-// In the entry of each role of `into`, takes the roles of `out` away and joins those of `put`.
-pub(crate) fn exchange_roles(table: &mut [u64; 64], into: u64, out: u64, put: u64)
-    ensures { table.new ≡ spec.table role_count (λ r. union (difference (spec.at table.old r) (when (member r into) out)) (when (member r into) put)) }
-{
-    *table = copied_roles(table);
-    let mut rest = into;
-    while rest != 0 {
-        let r = sets::lowest_member(rest) as usize;
-        table[r] = sets::union(sets::difference(table[r], out), put);
-        rest = sets::without_lowest(rest);
+    for r in into.members() {
+        let old: S = entry(table, r as usize);
+        store(table, r as usize, old.difference(out).union(put));
     }
 }
 
 // The roles present that have a among their juniors.
-pub(crate) fn seniors_in(present: u64, juniors: &[u64; 64], a: usize) -> u64
+pub(crate) fn seniors_in(present: u64, juniors: &Table, a: usize) -> u64
     ensures { result ≡ collect role_count (λ r. member r present && member a (spec.at juniors.now r)) }
 {
-    let mut seniors = 0u64;
-    let mut rest = present;
-    while rest != 0 {
-        let r = sets::lowest_member(rest) as usize;
-        seniors = sets::union(
-            seniors,
-            sets::when(sets::member(a, juniors[r]), sets::single(r)),
-        );
-        rest = sets::without_lowest(rest);
-    }
-    seniors
+    present.members().fold(0u64, |seniors, r| {
+        let i = r as usize;
+        seniors.union(u64::single(i).when(entry::<u64>(juniors, i).member(a)))
+    })
 }

@@ -8,11 +8,14 @@ use Prim.Native.Nat.{ℕ, ◌<◌, ◌≤◌}
 use borrow.Author.Tests.{lt-leb, le-leb}
 use lib.ListN.{length}
 use lib.Dec.{leb}
+use Rattle.std.specs.Prelude.{Result, Ok, Err}
+use Rattle.std.specs.Result.{result_unwrap_or}
 use Rattle.sets.proofs.Tests.{passes, fails, decide}
 use Rattle.lists.specs.Settling as settling
 use Rattle.graph.specs.Graph.{privilege_count}
 use Rattle.graph.specs.Refusing.{Verdict, passed, verdict, no_privilege_number}
 use Rattle.graph.specs.Refusing as refusing
+use Rattle.graph.specs.declared.Refusal.{Refusal}
 use Rattle.seats.specs.Bytes.{number_at}
 use Rattle.seats.specs.Seats.{State, seat_count}
 use Rattle.seats.specs.Calls.{ask, Answer, accepted, answered, refused, no_seat_number, judged, settle}
@@ -21,11 +24,18 @@ use Rattle.seats.specs.Records.{all_empty, fields, unused, kind, kinds}
 use Rattle.seats.specs.Records as base
 use Rattle.seats.specs.ListTheorem.{ask_record}
 use Rattle.seats.specs.Asks.{is_yes}
+use Rattle.seats.specs.Reading.{read_asked}
 use Rattle.sittings.specs.Sittings.{Sitting}
 use Rattle.sittings.specs.Calls.{drawn_checks, checks, after, reply, perform, ask_active}
 use Rattle.sittings.specs.Records.{own_kind, own, decoded, decode, perform_decoded, step}
 use Rattle.keeper.specs.Block.{block_length, state_in, sitting_in, of_sitting, of_state, code_of}
 use Rattle.keeper.specs.Exports.{call_block, given, may_block, ask_block, may_active_block}
+
+-- A refused ask is no yes.
+pub yes_asked : (r : Result Bool Refusal) → result_unwrap_or r false ≡ is_yes (read_asked r)
+unfolding read_asked is_yes
+yes_asked (Ok b) = refl
+yes_asked (Err r) = refl
 
 -- ---- the numbers
 

@@ -1,11 +1,12 @@
 -- What a block holds after a call or a load is the sitting that the definitions leave, so that a list of calls on one block is the definitions' list.
 -- Assumes nothing.
 use mathlib.Core.Path.{◌≡◌, refl, sym, ap, ap₂, ◌∙◌}
-use mathlib.Core.List.{List, [], ◌∷◌, ◌++◌, map, append_assoc}
+use mathlib.Core.List.{List, [], ◌∷◌, ◌++◌, map, append_assoc, append-nil}
 use Prim.Native.Nat.{ℕ, ◌≤◌}
 use native.Mathlib.Omega.{arith}
 use borrow.Author.Tests.{le-leb}
 use lib.ListN.{length, get_or, drop, replicate, length-append, length-drop, length-set}
+use Rattle.std.specs.Prelude.{Ok}
 use Rattle.lists.specs.Runs.{run}
 use Rattle.lists.proofs.Settling.{settle_keeps}
 use Rattle.sets.specs.Sets.{empty}
@@ -24,9 +25,9 @@ use Rattle.seats.specs.Seats as seats
 use Rattle.seats.specs.Calls.{change, declare, lift, assign, unassign, ask, with_graph, with_conflicts, with_seats, judged, settle}
 use Rattle.seats.specs.Calls as base
 use Rattle.seats.specs.Images.{end_sets, Entry, Contents, stored_pairs, restored, entry_checks, content_checks, Loaded, loaded, not_loaded, unless_refused, load_contents}
-use Rattle.seats.specs.Reading.{state_of, stored}
-use Rattle.seats.specs.declared.Stored.{Stored}
-use Rattle.seats.specs.declared.Stored.TheVariants as storings
+use Rattle.seats.specs.Reading.{state_of, read_decision}
+use Rattle.seats.specs.declared.Decided.{Decided}
+use Rattle.seats.specs.declared.Decided.TheVariants as decisions
 use Rattle.seats.proofs.LoadRefusals.{load_cases}
 use Rattle.seats.proofs.StoredEntries.{length-stored}
 use Rattle.sittings.specs.Sittings.{Sitting, begun, fresh, still_active}
@@ -62,18 +63,23 @@ tables_of z = tables z.state.graph.roles z.state.graph.sets z.state.graph.confli
 sized_tables : (z : Sitting) → Sized z → map length (tables_of z) ≡ sizes
 sized_tables z s = rw (s.state.sets, s.state.conflicts, s.state.seats, s.pairs, s.active)
 
--- A block that holds a sitting is its tables, and behind them the block's own words.
-holding_laid : (z : Sitting) (W : List ℕ) → holding z W ≡ laid (tables_of z) (drop block_length W)
-unfolding holding words_of laid
-holding_laid z W = simp append_assoc
+-- The words of a sitting, and others behind them, are its tables and those.
+words_laid : (z : Sitting) (D : List ℕ) → words_of z ++ D ≡ laid (tables_of z) D
+unfolding words_of laid
+words_laid z D = simp append_assoc
+
+-- What is read of them is the sitting.
+sitting_before : (z : Sitting) (D : List ℕ) → Sized z → sitting_in (words_of z ++ D) ≡ z
+unfolding words_of sets_in cut
+sitting_before z D s =
+    let e : cut sizes 0 (words_of z ++ D) ≡ tables_of z =
+    ap₂ (λ (l X : List ℕ). cut l 0 X) (sym (sized_tables z s)) (words_laid z D) ∙ cut_laid [] (tables_of z) D refl in
+    ap (λ (m : List (List ℕ)). sitting_of (state_of z.state.graph.roles (get_or m 1 []) (get_or m 2 []) (get_or m 3 [])) (get_or m 4 []) (get_or m 5 [])) e
 
 -- What is read of a block that holds a sitting is the sitting.
 pub sitting_held : (z : Sitting) (W : List ℕ) → Sized z → sitting_in (holding z W) ≡ z
-unfolding holding words_of sets_in cut
-sitting_held z W s =
-    let e : cut sizes 0 (holding z W) ≡ tables_of z =
-    ap₂ (λ (l X : List ℕ). cut l 0 X) (sym (sized_tables z s)) (holding_laid z W) ∙ cut_laid [] (tables_of z) (drop block_length W) refl in
-    ap (λ (m : List (List ℕ)). sitting_of (state_of z.state.graph.roles (get_or m 1 []) (get_or m 2 []) (get_or m 3 [])) (get_or m 4 []) (get_or m 5 [])) e
+unfolding holding
+sitting_held z W s = sitting_before z (drop block_length W) s
 
 holding-length : (z : Sitting) (W : List ℕ) → Sized z → block_length ≤ length W → length (holding z W) ≡ length W
 unfolding holding words_of
@@ -86,16 +92,14 @@ holding-length z W s l =
     simp (length-append, length-drop) (omega arith)
 
 holding_behind : (z : Sitting) (W : List ℕ) → Sized z → drop block_length (holding z W) ≡ drop block_length W
-unfolding past
+unfolding holding past
 holding_behind z W s =
-    ap₂ (λ (l X : List ℕ). drop (past l 0) X) (sym (sized_tables z s)) (holding_laid z W) ∙ drop_laid [] (tables_of z) (drop block_length W) refl
+    let D = drop block_length W in
+    ap₂ (λ (l X : List ℕ). drop (past l 0) X) (sym (sized_tables z s)) (words_laid z D) ∙ drop_laid [] (tables_of z) D refl
 
--- What is made of the sitting that a block holds, held by that block, is held by the block before it.
-pub made_of_held : (f : Sitting → Sitting) (z : Sitting) (W : List ℕ) {X : List ℕ} → Sized z → X ≡ holding z W → holding (f (sitting_in X)) X ≡ holding (f z) W
-unfolding holding
-made_of_held f z W s e =
-    ap (λ (Y : List ℕ). holding (f (sitting_in Y)) Y) e
-    ∙ ap₂ (λ (y : Sitting) (D : List ℕ). words_of (f y) ++ D) (sitting_held z W s) (holding_behind z W s)
+-- What is made of the sitting of these words is made of the sitting that they are the words of.
+pub made_of_words : (f : Sitting → Sitting) (z : Sitting) {X : List ℕ} → Sized z → X ≡ words_of z → words_of (f (sitting_in X)) ≡ words_of (f z)
+made_of_words f z {X} s e = ap (λ (y : Sitting). words_of (f y)) (ap sitting_in (e ∙ sym (append-nil (words_of z))) ∙ sitting_before z [] s)
 
 -- The sitting of a block is sized.
 pub block_sized : (W : List ℕ) → block_length ≤ length W → Sized (sitting_in W)
@@ -161,19 +165,19 @@ after_sized z (activate a b) s = record { state = s.state; pairs = s.pairs; acti
 after_sized z (deactivate a b) s = record { state = s.state; pairs = s.pairs; active = simp length-set s.active }
 
 -- What a decision stores keeps the tables' lengths.
-pub stored_sized : (z : Sitting) (x : Stored) → Sized z → Sized (sitting_of (stored z.state x) z.pairs z.active)
-unfolding stored with_graph with_conflicts with_seats
-stored_sized z storings.Nothing s = s
-stored_sized z (storings.ConflictsOf e) s = record {
+pub decided_sized : (z : Sitting) (x : Decided) → Sized z → Sized (sitting_of (read_decision z.state (Ok x)).1 z.pairs z.active)
+unfolding read_decision with_graph with_conflicts with_seats
+decided_sized z (decisions.Conflicts e) s = record {
   state = record { sets = s.state.sets; conflicts = simp length-set s.state.conflicts; seats = s.state.seats };
   pairs = s.pairs;
   active = s.active;
 }
-stored_sized z (storings.RolesOf e) s = record {
+decided_sized z (decisions.Roles e) s = record {
   state = record { sets = s.state.sets; conflicts = s.state.conflicts; seats = simp length-set s.state.seats };
   pairs = s.pairs;
   active = s.active;
 }
+decided_sized z (decisions.Answered b) s = s
 
 decoded_sized : (z : Sitting) (d : Decoded) → Sized z → Sized (perform_decoded z d).1
 unfolding perform_decoded perform settle

@@ -3,13 +3,15 @@
 use mathlib.Core.Path.{◌≡◌, refl, sym, ap, ap₂, ◌∙◌}
 use mathlib.Core.Bool.{Bool, true, ◌&&◌}
 use mathlib.Core.List.{List, [], ◌∷◌, ◌++◌, map, append_assoc}
-use Prim.Native.Nat.{ℕ, zero, suc, ◌+◌, ◌-◌, ◌≤◌}
+use Prim.Native.Nat.{ℕ, zero, suc, ◌+◌, ◌≤◌}
 use native.Mathlib.Omega.{arith}
+use borrow.Rule.Slice.PartMut.{put_mid}
 use lib.ListN.{length, take, drop, set, length-append, length-drop, take-append-drop}
-use lib.Seq.{sets-eq, take_at, drop_at, take-append-le, drop-append-le, length-take-le, drop-drop}
+use lib.Seq.{take_at, drop_at, length-take-le, drop-drop}
 use lib.Dec.{T, leb, eqb, leb→le}
+use Rattle.std.proofs.lemmas.List.{drop-take}
+use Rattle.std.proofs.lemmas.Slice.{take-put_mid_below, drop-put_mid}
 use Rattle.sets.proofs.Tests.{both, test_equal}
-use Rattle.seats.specs.Written.{Written}
 
 -- The tables of these sizes from word i on.
 unfoldable pub cut : List ℕ → ℕ → List ℕ → List (List ℕ)
@@ -49,61 +51,38 @@ drop_laid F (t ∷ m) D e = rw (sym (append_assoc F t (laid m D))) (drop_laid (F
 
 -- ---- one table written over
 
--- A table is read of the first of two lists where it ends there.
-front_table : (F R : List ℕ) (i n : ℕ) → i + n ≤ length F → take n (drop i (F ++ R)) ≡ take n (drop i F)
-front_table F R i n h =
-    ap (take n) (drop-append-le i F R (omega arith)) ∙ take-append-le n (drop i F) R (simp length-drop (omega arith))
-
--- Table k, of those from word i on, starts at word a, and word b is behind it.
+-- Table k, of those from word i on, starts at word a and has n words.
 unfoldable pub stands : ℕ → ℕ → List ℕ → ℕ → ℕ → Bool
-stands a b [] i k = true
-stands a b (n ∷ l) i zero = eqb i a && eqb (i + n) b
-stands a b (n ∷ l) i (suc k) = leb (i + n) a && stands a b l (i + n) k
+stands a n [] i k = true
+stands a n (m ∷ l) i zero = eqb i a && eqb m n
+stands a n (m ∷ l) i (suc k) = leb (i + m) a && stands a n l (i + m) k
 
-module _ {X t Y : List ℕ} {a b : ℕ} (w : Written X a t Y b) (room : b ≤ length X) where
-  -- What is written stands between what stood before it and behind it.
-  around : Y ≡ take a X ++ (t ++ drop b X)
-  around =
-      let p = w.place in
-      w.list ∙ sets-eq t X a (omega arith) ∙ append_assoc (take a X) t _ ∙ ap (λ (k : ℕ). take a X ++ (t ++ drop k X)) (sym p)
+-- The n words from word a on are written over by as many others.
+module _ (X t : List ℕ) (a n : ℕ) (same : length t ≡ length (take n (drop a X))) (room : a + n ≤ length X) where
+  as_many : length t ≡ n
+  as_many = same ∙ length-take-le n (drop a X) (simp length-drop (omega arith))
 
-  front_length : length (take a X) ≡ a
-  front_length = let p = w.place in length-take-le a X (omega arith)
+  before_stays : (i m : ℕ) → i + m ≤ a → take m (drop i (put_mid a n X t)) ≡ take m (drop i X)
+  before_stays i m h = sym (drop-take i m (put_mid a n X t)) ∙ ap (drop i) (take-put_mid_below a n X t (i + m) h (omega arith)) ∙ drop-take i m X
 
-  before_stays : (i n : ℕ) → i + n ≤ a → take n (drop i Y) ≡ take n (drop i X)
-  before_stays i n h =
-      let l = front_length in
-      ap (λ (k : List ℕ). take n (drop i k)) around
-      ∙ front_table (take a X) (t ++ drop b X) i n (omega arith)
-      ∙ sym (ap (λ (k : List ℕ). take n (drop i k)) (sym (take-append-drop a X)) ∙ front_table (take a X) (drop a X) i n (omega arith))
-
-  pub behind_stays : (i : ℕ) → b ≤ i → drop i Y ≡ drop i X
-  behind_stays i h =
-      let e : b + (i - b) ≡ i = omega arith in
-      let l : length (take a X ++ t) ≡ b = length-append (take a X) t ∙ ap (λ (k : ℕ). k + length t) front_length ∙ sym w.place in
-      let d : drop b Y ≡ drop b X = ap (drop b) (around ∙ sym (append_assoc (take a X) t (drop b X))) ∙ drop_at (take a X ++ t) (drop b X) b l in
-      ap (λ (k : ℕ). drop k Y) (sym e) ∙ sym (drop-drop (i - b) b Y) ∙ ap (drop (i - b)) d ∙ drop-drop (i - b) b X ∙ ap (λ (k : ℕ). drop k X) e
-
-  own_table : (n : ℕ) → a + n ≡ b → take n (drop a Y) ≡ t
-  own_table n h =
-      let p = w.place in
-      ap (λ (k : List ℕ). take n (drop a k)) around ∙ ap (take n) (drop_at (take a X) (t ++ drop b X) a front_length) ∙ take_at t (drop b X) n (omega arith)
+  own_table : take n (drop a (put_mid a n X t)) ≡ t
+  own_table = ap (take n) (drop_at (take a X) (t ++ drop n (drop a X)) a (length-take-le a X (omega arith))) ∙ take_at t (drop n (drop a X)) n as_many
 
   -- Tables behind it stay.
-  cut_behind : (l : List ℕ) (i : ℕ) → b ≤ i → cut l i Y ≡ cut l i X
+  cut_behind : (l : List ℕ) (i : ℕ) → a + n ≤ i → cut l i (put_mid a n X t) ≡ cut l i X
   unfolding cut
   cut_behind [] i h = refl
-  cut_behind (n ∷ l) i h = ap₂ (λ (x : List ℕ) (k : List (List ℕ)). x ∷ k) (ap (take n) (behind_stays i h)) (cut_behind l (i + n) (omega arith))
+  cut_behind (m ∷ l) i h = ap₂ (λ (x : List ℕ) (k : List (List ℕ)). x ∷ k) (ap (take m) (drop-put_mid a n X t i h (omega arith) as_many)) (cut_behind l (i + m) (omega arith))
 
   -- One table is what is written, and the others stay.
-  pub cut_written : (l : List ℕ) (i k : ℕ) → T (stands a b l i k) → cut l i Y ≡ set (cut l i X) k t
+  pub cut_put : (l : List ℕ) (i k : ℕ) → T (stands a n l i k) → cut l i (put_mid a n X t) ≡ set (cut l i X) k t
   unfolding cut stands
-  cut_written [] i k h = refl
-  cut_written (n ∷ l) i zero h =
-      let (p, q) = both (eqb i a) (eqb (i + n) b) h in
+  cut_put [] i k h = refl
+  cut_put (m ∷ l) i zero h =
+      let (p, q) = both (eqb i a) (eqb m n) h in
       let x : i ≡ a = test_equal p in
-      let y : i + n ≡ b = test_equal q in
-      ap₂ (λ (x : List ℕ) (k : List (List ℕ)). x ∷ k) (ap (λ (k : ℕ). take n (drop k Y)) x ∙ own_table n (omega arith)) (cut_behind l (i + n) (omega arith))
-  cut_written (n ∷ l) i (suc k) h =
-      let (p, q) = both (leb (i + n) a) (stands a b l (i + n) k) h in
-      ap₂ (λ (x : List ℕ) (k : List (List ℕ)). x ∷ k) (before_stays i n (leb→le (i + n) a p)) (cut_written l (i + n) k q)
+      let y : m ≡ n = test_equal q in
+      ap₂ (λ (x : List ℕ) (k : List (List ℕ)). x ∷ k) (ap₂ (λ (j k : ℕ). take j (drop k (put_mid a n X t))) y x ∙ own_table) (cut_behind l (i + m) (omega arith))
+  cut_put (m ∷ l) i (suc k) h =
+      let (p, q) = both (leb (i + m) a) (stands a n l (i + m) k) h in
+      ap₂ (λ (x : List ℕ) (k : List (List ℕ)). x ∷ k) (before_stays i m (leb→le (i + m) a p)) (cut_put l (i + m) k q)

@@ -1,5 +1,5 @@
 -- ---- a block of words
-pub mod TableCopies
+pub mod Shown
 pub mod LaidTables
 pub mod BlockWords
 pub mod BlockStates

@@ -1,5 +1,5 @@
 -- A lent block of words: the sitting that its first words hold, and the numbers that stand for answers.
-use Rattle.std.specs.Prelude.{cond, List, ◌∷◌, ◌++◌, ℕ, ◌+◌, ◌*◌, length, get_or, take, drop, leb}
+use Rattle.std.specs.Prelude.{cond, List, ◌∷◌, ◌++◌, ℕ, ◌+◌, ◌*◌, Option, Some, None, length, get_or, take, drop, leb}
 use Rattle.graph.specs.Graph.{role_count, privilege_count}
 use Rattle.seats.specs.Bytes.{Filled, written, too_short}
 use Rattle.seats.specs.Seats.{State, seat_count}
@@ -8,7 +8,8 @@ use Rattle.seats.specs.Images.{Measured, measured, unmeasured}
 use Rattle.seats.specs.Tape.{answer_number, answer_place}
 use Rattle.seats.specs.Reading.{state_of}
 use Rattle.sittings.specs.Sittings.{Sitting}
-use Rattle.sittings.specs.Reading.{sitting_of}
+use Rattle.sittings.specs.Reading.{sitting_of, lent}
+use Rattle.sittings.specs.declared.LentSitting.{LentSitting}
 
 -- Where the tables of a sitting start: word 0 has the ordinary roles, and behind them stand the effective sets, the conflicts, the seats' roles, the pairs and the active roles.
 abbrev pub sets_word : ℕ
@@ -57,6 +58,11 @@ state_in W = state_of (get_or W 0 0) (sets_of W) (conflicts_of W) (seats_of W)
 -- The sitting that they hold.
 abbrev pub sitting_in : List ℕ → Sitting
 sitting_in W = sitting_of (state_in W) (pairs_of W) (active_of W)
+
+-- The sitting that is lent, if one is.
+unfoldable pub read_held : Option LentSitting → Option Sitting
+read_held (Some z) = Some (lent z)
+read_held None = None
 
 -- The words of a sitting.
 unfoldable pub words_of : Sitting → List ℕ

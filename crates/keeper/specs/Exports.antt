@@ -17,7 +17,11 @@ use Rattle.sittings.specs.Sittings.{Sitting, fresh, excluded}
 use Rattle.sittings.specs.Calls.{ask_active}
 use Rattle.sittings.specs.Records.{step}
 use Rattle.sittings.specs.Images.{load_over}
-use Rattle.keeper.specs.Block.{holding, of_sitting, of_state, code_of, no_state, not_saved, save_code, length_code}
+use Rattle.keeper.specs.Block.{words_of, holding, of_sitting, of_state, code_of, no_state, not_saved, save_code, length_code}
+
+-- An answer, and the words of the sitting after it.
+unfoldable pub left : Answer × Sitting → Answer × List ℕ
+left r = (r.0, words_of r.1)
 
 -- An answer's code, and the block with the sitting after it.
 unfoldable pub given : List ℕ → Answer × Sitting → ℕ × List ℕ

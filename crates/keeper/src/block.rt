@@ -1,13 +1,12 @@
-// The words of a block: where its tables start, and what is written into it.
-ghost use Rattle.std.specs.Prelude.{◌≡◌, ◌+◌, ◌≤◌, length};
-ghost use Rattle.graph.specs.Reading.{read_set};
-ghost use Rattle.seats.specs.Written.{Written};
+// The words of a block: where its tables start, the sitting that it holds, and what is written into it.
+ghost use Rattle.std.specs.Prelude.{◌≡◌, Some, None};
 ghost use Rattle.seats.specs.Reading.{read_state};
 ghost use Rattle.sittings.specs.Sittings.{begun};
-ghost use Rattle.keeper.specs.Block.{block_length, holding};
+ghost use Rattle.sittings.specs.Reading.{lent};
+ghost use Rattle.keeper.specs.Block.{sitting_in, words_of, of_sitting, read_held};
 
-use graph::PrivilegeSet;
-use seats::State;
+use seats::{LentState, State};
+use sittings::LentSitting;
 
 // Where the tables of sets, conflicts, seats, pairs and active roles start.
 pub(crate) const SETS: usize = 1;
@@ -23,34 +22,43 @@ pub(crate) const ACTIVE: usize = PAIRS + 64;
 // How many words a sitting takes.
 pub(crate) const WORDS: usize = ACTIVE + 64;
 
-// Writes a table, from a word on.
-pub(crate) fn put_table(block: &mut [u64], at: usize, table: &[u64; 64])
-    requires { at + 64 ≤ length block.old }
-    ensures { Written block.old at table.now block.new (at + 64) }
+// The words of a sitting: the first of a block.
+pub(crate) type Words = [u64; WORDS];
+
+// The sitting of these words, with its tables lent.
+pub(crate) fn lent(words: &Words) -> LentSitting
+    ensures { lent result ≡ sitting_in words.now }
 {
-    let words = &table[..];
-    for i in 0..64usize {
-        block[at + i] = words[i];
+    let state = LentState::of(
+        words[0],
+        &words[SETS..CONFLICTS],
+        &words[CONFLICTS..SEATS],
+        &words[SEATS..PAIRS],
+    );
+    LentSitting {
+        state,
+        pairs: &words[PAIRS..ACTIVE],
+        active: &words[ACTIVE..WORDS],
     }
 }
 
-// Begins a sitting with a state, in the place of the one that the first words hold: there is no pair, and nothing is active.
-pub(crate) fn begin(block: &mut [u64], state: State)
-    requires { block_length ≤ length block.old }
-    ensures { block.new ≡ holding (begun (read_state state)) block.old }
+// The sitting that a block holds, if it has words for one.
+pub(crate) fn held(block: &[u64]) -> Option<LentSitting>
+    ensures { read_held result ≡ of_sitting block.now Some None }
 {
-    let none = [0u64; 64];
-    block[0] = state.roles;
-    put_table(block, SETS, &state.sets);
-    put_table(block, CONFLICTS, &state.conflicts);
-    put_table(block, SEATS, &state.seats);
-    put_table(block, PAIRS, &none);
-    put_table(block, ACTIVE, &none);
+    let words = block.first_chunk::<WORDS>()?;
+    Some(lent(words))
 }
 
-// The word of a set of privileges, as a caller of the exported functions has it.
-pub(crate) fn word_of(set: PrivilegeSet) -> u64
-    ensures { result ≡ read_set set }
+// Begins a sitting with a state, in the place of the one that the words hold: there is no pair, and nothing is active.
+pub(crate) fn begin(words: &mut Words, state: State)
+    ensures { words.new ≡ words_of (begun (read_state state)) }
 {
-    set.word
+    let none = [0u64; 64];
+    words[0] = state.roles;
+    words[SETS..CONFLICTS].copy_from_slice(&state.sets);
+    words[CONFLICTS..SEATS].copy_from_slice(&state.conflicts);
+    words[SEATS..PAIRS].copy_from_slice(&state.seats);
+    words[PAIRS..ACTIVE].copy_from_slice(&none);
+    words[ACTIVE..WORDS].copy_from_slice(&none);
 }

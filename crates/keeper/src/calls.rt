@@ -1,12 +1,18 @@
 // The exported functions that start a sitting and take records.
+ghost use Rattle.std.specs.Prelude.{◌≡◌};
+ghost use Rattle.seats.specs.Reading.{read_answer};
+ghost use Rattle.sittings.specs.Records.{step};
+ghost use Rattle.keeper.specs.Block.{sitting_in};
+ghost use Rattle.keeper.specs.Exports.{left};
 ghost use Rattle.keeper.specs.BlockLists.{FreshPromise, CallPromise};
 
-use crate::block::{WORDS, begin};
+use crate::block::{WORDS, Words, begin};
 use crate::changes::take_change;
 use crate::choices::take_choice;
-use crate::codes::{NO_STATE, refusal_code};
+use crate::codes::{NO_STATE, code};
 use crate::requests::take_request;
-use seats::State;
+use graph::{Reason, Refusal};
+use seats::{Answer, loading};
 use sittings::{Call, records};
 
 // Makes the block's sitting a fresh one.
@@ -14,22 +20,28 @@ use sittings::{Call, records};
 pub extern "C" fn keeper_fresh(block: &mut [u64]) -> u32
     ensures { FreshPromise block.old result block.new }
 {
-    if block.len() < WORDS {
+    let Some(words) = block.first_chunk_mut::<WORDS>() else {
         return NO_STATE;
-    }
-    let sets = [0u64; 64];
-    let conflicts = [0u64; 64];
-    let seats = [0u64; 64];
-    begin(
-        block,
-        State {
-            roles: 0,
-            sets,
-            conflicts,
-            seats,
-        },
-    );
+    };
+    begin(words, loading::fresh());
     0
+}
+
+// A record: refusal 1 before any field is looked at, or the call.
+fn take(words: &mut Words, bytes: &[u8]) -> Answer
+    ensures { (read_answer result, words.new) ≡ left (step (sitting_in words.old) bytes.now) }
+{
+    let Some(step) = records::decode(bytes) else {
+        return Err(Refusal {
+            reason: Reason::Malformed,
+            place: 0,
+        });
+    };
+    match step.call {
+        Call::Change(edit) => take_change(words, edit),
+        Call::Request(request) => take_request(words, request),
+        Call::Choice(choice) => take_choice(words, choice),
+    }
 }
 
 // Takes a record of any bytes.
@@ -37,16 +49,8 @@ pub extern "C" fn keeper_fresh(block: &mut [u64]) -> u32
 pub extern "C" fn keeper_call(block: &mut [u64], bytes: &[u8]) -> u32
     ensures { CallPromise block.old bytes.now result block.new }
 {
-    if block.len() < WORDS {
+    let Some(words) = block.first_chunk_mut::<WORDS>() else {
         return NO_STATE;
-    }
-    let Some(step) = records::decode(bytes) else {
-        return refusal_code(1, 0);
     };
-    let call = step.call;
-    match call {
-        Call::Change(edit) => take_change(block, edit),
-        Call::Request(request) => take_request(block, request),
-        Call::Choice(choice) => take_choice(block, choice),
-    }
+    code(take(words, bytes))
 }

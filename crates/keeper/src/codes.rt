@@ -1,12 +1,11 @@
 // Answers as one number each.
 ghost use Rattle.std.specs.Prelude.{◌≡◌, ◌<◌};
-ghost use Rattle.seats.specs.Calls.{refused};
-ghost use Rattle.seats.specs.Asks.{is_yes};
-ghost use Rattle.seats.specs.Reading.{read_answer};
+ghost use Rattle.seats.specs.Reading.{read_asked, read_answer};
 ghost use Rattle.keeper.specs.Block.{code_of};
 
-use seats::Answer;
+use graph::Refusal;
 use seats::answers::{number_of, place_of};
+use seats::{Answer, Reply};
 
 // The code of a block with too few words.
 pub(crate) const NO_STATE: u32 = 65535;
@@ -17,26 +16,19 @@ pub(crate) const NOT_SAVED: u32 = 65536;
 // What a save from a block with too few words answers.
 pub(crate) const NO_IMAGE: u32 = NOT_SAVED + NO_STATE;
 
-// The code of a refusal.
-pub(crate) fn refusal_code(number: u8, place: u8) -> u32
-    ensures { (result ≡ code_of (refused number place)) × (result < 65536) }
-{
-    256 * (number as u32) + (place as u32)
-}
-
 // The code of an answer.
 pub(crate) fn code(answer: Answer) -> u32
-    ensures { result ≡ code_of (read_answer answer) }
+    ensures { (result ≡ code_of (read_answer answer)) × (result < 65536) }
 {
-    refusal_code(number_of(answer), place_of(answer))
+    256 * u32::from(number_of(answer)) + u32::from(place_of(answer))
 }
 
-// Whether an answer is yes.
-pub(crate) fn is_yes(answer: Answer) -> bool
-    ensures { result ≡ is_yes (read_answer answer) }
+// The code of what an ask is answered.
+pub(crate) fn ask_code(asked: Result<bool, Refusal>) -> u32
+    ensures { result ≡ code_of (read_asked asked) }
 {
-    match answer {
-        Answer::Answered(held) => held,
-        _ => false,
+    match asked {
+        Ok(held) => code(Ok(Reply::Answered(held))),
+        Err(refusal) => code(Err(refusal)),
     }
 }

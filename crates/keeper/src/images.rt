@@ -3,8 +3,8 @@ ghost use Rattle.std.specs.Prelude.{◌≡◌};
 ghost use Rattle.keeper.specs.Exports.{image_length};
 ghost use Rattle.keeper.specs.BlockLists.{LoadPromise, SavePromise};
 
-use crate::block::{CONFLICTS, PAIRS, SEATS, SETS, WORDS, begin};
-use crate::codes::{NO_IMAGE, NO_STATE, NOT_SAVED, refusal_code};
+use crate::block::{WORDS, begin, held};
+use crate::codes::{NO_IMAGE, NO_STATE, NOT_SAVED, code};
 use seats::{loading, saving};
 
 // Saves the block's state into the buffer: the length written, or NOT_SAVED and the code of what hinders it.
@@ -12,15 +12,12 @@ use seats::{loading, saving};
 pub extern "C" fn keeper_save(block: &[u64], buffer: &mut [u8]) -> u32
     ensures { SavePromise block.now buffer.old result buffer.new }
 {
-    if block.len() < WORDS {
+    let Some(sitting) = held(block) else {
         return NO_IMAGE;
-    }
-    let sets = &block[SETS..CONFLICTS];
-    let conflicts = &block[CONFLICTS..SEATS];
-    let seats = &block[SEATS..PAIRS];
-    match saving::save(block[0], sets, conflicts, seats, buffer) {
+    };
+    match saving::save(sitting.state, buffer) {
         Ok(written) => written as u32,
-        Err(too_short) => NOT_SAVED + refusal_code(too_short.number, too_short.place),
+        Err(too_short) => NOT_SAVED + code(Err(too_short)),
     }
 }
 
@@ -31,7 +28,7 @@ pub extern "C" fn keeper_image_length(bytes: &[u8]) -> u32
 {
     match loading::image_length(bytes) {
         Ok(length) => length as u32,
-        Err(refusal) => NOT_SAVED + refusal_code(refusal.number, refusal.place),
+        Err(refusal) => NOT_SAVED + code(Err(refusal)),
     }
 }
 
@@ -40,14 +37,14 @@ pub extern "C" fn keeper_image_length(bytes: &[u8]) -> u32
 pub extern "C" fn keeper_load(block: &mut [u64], bytes: &[u8]) -> u32
     ensures { LoadPromise block.old bytes.now result block.new }
 {
-    if block.len() < WORDS {
+    let Some(words) = block.first_chunk_mut::<WORDS>() else {
         return NO_STATE;
-    }
+    };
     match loading::read_image(bytes) {
         Ok(state) => {
-            begin(block, state);
+            begin(words, state);
             0
         }
-        Err(refusal) => refusal_code(refusal.number, refusal.place),
+        Err(refusal) => code(Err(refusal)),
     }
 }

@@ -6,25 +6,30 @@ use mathlib.Core.List.{List, [], ◌∷◌, ◌++◌, append_assoc}
 use Prim.Native.Nat.{ℕ}
 use native.Mathlib.Omega.{arith}
 use Rattle.graph.specs.Editing.{Change, add_by_place, add_by_privileges, remove_role, grant, withdraw, add_edge, remove_edge}
-use Rattle.graph.specs.Refusing.{Check, Verdict, passed, verdict, input_checks, state_checks, still_below, closed_checks}
+use Rattle.graph.specs.Refusing.{Check, Verdict, passed, verdict, early, input_checks, at_or_below, state_checks, still_below, closed_checks}
 use Rattle.graph.specs.Refusing as refusing
 use Rattle.graph.specs.Reading.{read_verdict}
 use Rattle.graph.specs.declared.Refusal.{Refusal}
-use Rattle.graph.specs.declared.Verdict.TheVariants.{the_data, Passed, Refused}
+use Rattle.std.specs.Prelude.{Result, Ok, Err}
 use Rattle.graph.proofs.Refusals.{parts, passed_passes, verdict_passes}
 use Rattle.graph.proofs.Judging.{refused_first, passed_first}
 use Rattle.seats.specs.Seats.{State}
 use Rattle.lists.specs.Settling as settling
-use Rattle.seats.specs.Calls.{change, Answer, accepted, refused, seat_checks, checks, after, judged, settle}
-use Rattle.seats.specs.Reading.{read_answer}
+use Rattle.seats.specs.Calls.{change, accepted, seat_checks, checks, after, judged, settle, perform, reply}
+use Rattle.seats.specs.Reading.{read_refusal}
 use Rattle.seats.specs.Working.{removal_checks, after_checks}
-use Rattle.seats.specs.declared.Answer.TheVariants as answers
 
 -- Checks in the middle that refuse nothing do not count.
 skipped : (l m n : List Check) → verdict m ≡ passed → verdict (l ++ n) ≡ verdict ((l ++ m) ++ n)
 unfolding verdict read_verdict
-skipped [] m n e = sym (passed_first m n {v = Passed} (sym e) refl)
+skipped [] m n e = sym (passed_first m n {v = Ok tt} (sym e) refl)
 skipped (c ∷ l) m n e = ap (cond c.holds (refusing.refused c.number c.place)) (skipped l m n e)
+
+-- Checks at the end that refuse nothing do not count.
+ended : (l m : List Check) → verdict m ≡ passed → verdict l ≡ verdict (l ++ m)
+unfolding verdict
+ended [] m e = sym e
+ended (c ∷ l) m e = ap (cond c.holds (refusing.refused c.number c.place)) (ended l m e)
 
 -- What passes is not refused.
 none_refused : {n p : ℕ} → passed ≡ refusing.refused n p → ⊥
@@ -71,40 +76,38 @@ module _ (s : State) (c : Change) where
       sym (ap verdict (ap (λ (l : List Check). (before_checks s c ++ seat_checks s c) ++ l) (append_assoc (still_below next.graph c) (closed_checks next.graph) _)
       ∙ append_assoc (before_checks s c) (seat_checks s c) _ ∙ append_assoc (input_checks c) (state_checks s.graph c) _))
 
-  module _ {v : the_data} (e : read_verdict v ≡ verdict (removal_checks s c)) where
+  module _ {v : Result (Unit {0}) Refusal} (e : read_verdict v ≡ verdict (removal_checks s c)) where
     -- What the checks of a removal refuse, all checks do.
-    pub removal_refused : {r : Refusal} → v ≡ Refused r → read_verdict v ≡ verdict (checks s (change c) next)
+    pub removal_refused : {r : Refusal} → v ≡ Err r → read_verdict (Err r) ≡ verdict (checks s (change c) next)
     unfolding read_verdict
     removal_refused d = refused_first (before_checks s c ++ seat_checks s c) (after_checks next c) (e ∙ removal_stops s c (sym e ∙ ap read_verdict d)) d ∙ sym in_parts
 
+    -- And those before closing do.
+    pub removal_first : {r : Refusal} → v ≡ Err r → read_verdict (Err r) ≡ verdict (before_checks s c ++ seat_checks s c)
+    unfolding read_verdict
+    removal_first d = sym (ap read_verdict d) ∙ e ∙ removal_stops s c (sym e ∙ ap read_verdict d)
+
+    -- Where they pass, those before closing are those without that of the seats.
+    pub before_alone : v ≡ Ok tt → verdict (before_checks s c) ≡ verdict (before_checks s c ++ seat_checks s c)
+    unfolding read_verdict
+    before_alone d = ended (before_checks s c) (seat_checks s c) (removal_goes s c (sym e ∙ ap read_verdict d))
+
     -- Where they pass, all checks are those without that of the seats.
-    pub checks_without : v ≡ Passed → verdict (before_checks s c ++ after_checks next c) ≡ verdict (checks s (change c) next)
+    pub checks_without : v ≡ Ok tt → verdict (before_checks s c ++ after_checks next c) ≡ verdict (checks s (change c) next)
     unfolding read_verdict
     checks_without d = skipped (before_checks s c) (seat_checks s c) (after_checks next c) (removal_goes s c (sym e ∙ ap read_verdict d)) ∙ sym in_parts
 
--- A verdict that refuses leaves the state m, and one that passes has h.
-module _ {v : the_data} {w : Verdict} (m h : State) (e : read_verdict v ≡ w) where
-  pub settled_refused : {r : Refusal} → v ≡ Refused r → (refused r.number r.place, m) ≡ settle w accepted m h
+-- A verdict that refuses leaves the state, and one that passes has h.
+module _ {w : Verdict} (s h : State) where
+  pub settled_refused : (r : Refusal) → read_verdict (Err r) ≡ w → (read_refusal r, s) ≡ settle w accepted s h
   unfolding settle judged settling.settle read_verdict
-  settled_refused d = ap (λ (x : Verdict). settle x accepted m h) (sym (ap read_verdict d) ∙ e)
+  settled_refused r e = ap (λ (x : Verdict). settle x accepted s h) e
 
-  pub settled_passed : v ≡ Passed → {k : State} → k ≡ h → (accepted, k) ≡ settle w accepted m h
-  unfolding settle judged settling.settle read_verdict
-  settled_passed d p = ap (λ (k : State). (accepted, k)) p ∙ ap (λ (x : Verdict). settle x accepted m h) (sym (ap read_verdict d) ∙ e)
+  pub settled_passed : passed ≡ w → {k : State} → k ≡ h → (accepted, k) ≡ settle w accepted s h
+  unfolding settle judged settling.settle
+  settled_passed e p = ap (λ (k : State). (accepted, k)) p ∙ ap (λ (x : Verdict). settle x accepted s h) e
 
--- An accepted change has its own state, whatever a refusal would leave.
-pub accepted_taken : (v : Verdict) (m h s : State) {a : answers.the_data} {t : State} → (read_answer a, t) ≡ settle v accepted m h → a ≡ answers.Accepted → (read_answer a, t) ≡ settle v accepted s h
-unfolding settle judged settling.settle read_answer
-accepted_taken passed m h s e d = e
-accepted_taken (refusing.refused n p) m h s {a} e d =
-    let x : accepted ≡ refused n p = sym (ap read_answer d) ∙ ap (λ (z : Answer × State). z.0) e in
-    let z : ◌≡◌ {A = ℕ} 0 1 = cc in
-    absurd (omega arith)
-
--- Any other answer is a refusal, which leaves the state.
-pub other_taken : (v : Verdict) (m h s : State) (a : answers.the_data) {t : State} → (read_answer a, t) ≡ settle v accepted m h → (a ≡ answers.Accepted → ⊥) → (read_answer a, s) ≡ settle v accepted s h
-unfolding settle judged settling.settle read_answer
-other_taken passed m h s answers.Accepted e o = absurd (o refl)
-other_taken passed m h s (answers.Answered b) e o = let x = ap (λ (z : Answer × State). z.0) e in let z : ◌≡◌ {A = ℕ} 0 1 = cc in absurd (omega arith)
-other_taken passed m h s (answers.Refused r) e o = let x = ap (λ (z : Answer × State). z.0) e in let z : ◌≡◌ {A = ℕ} 0 1 = cc in absurd (omega arith)
-other_taken (refusing.refused n p) m h s a e o = ap (λ (z : Answer × State). (z.0, s)) e
+-- What the checks before closing refuse, the call does, and it leaves the state.
+pub early_refused : (s : State) (c : Change) {v : Result (Unit {0}) Refusal} → read_verdict v ≡ verdict (before_checks s c ++ seat_checks s c) → {r : Refusal} → v ≡ Err r → (read_refusal r, s) ≡ perform s (change c)
+unfolding perform reply
+early_refused s c e {r} d = settled_refused s (next s c) r (refused_first (before_checks s c ++ seat_checks s c) (after_checks (next s c) c) e d ∙ sym (in_parts s c))

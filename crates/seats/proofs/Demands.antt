@@ -20,7 +20,7 @@ use Rattle.seats.specs.Seats as seats
 use Rattle.seats.specs.Calls.{Call, change, declare, lift, assign, unassign, ask, accepted, refused, checks, with_graph, with_conflicts, with_seats, after, is_refusal}
 use Rattle.seats.specs.Calls as calls
 use Rattle.seats.specs.Records.{well_formed, decode, step}
-use Rattle.seats.specs.Images.{least_image, image, far_at, restored, Loaded, loaded, not_loaded, load, load_over, settle_load, measure}
+use Rattle.seats.specs.Images.{least_image, image, far_at, restored, Loaded, loaded, not_loaded, load, load_over, settle_load}
 use Rattle.seats.specs.Saving.{save}
 use Rattle.seats.specs.Lists.{end}
 use Rattle.seats.specs.Promises.{StepPromise, LoadPromise}
@@ -28,7 +28,7 @@ use Rattle.seats.specs.Demands.{read_outcome, refuses, OfLoad, contents_in, load
 use Rattle.seats.specs.Invariants.{Invariant}
 use Rattle.seats.specs.Reading.{read_state, read_answer, read_filled, read_image}
 use Rattle.seats.specs.declared.State.{State}
-use Rattle.seats.specs.declared.Answer.{Answer}
+use Rattle.seats.specs.Replies.{Answer}
 use Rattle.seats.proofs.Settling.{refused_leaves}
 use Rattle.seats.proofs.RecordInvariant.{FitsDecoded, decode_fits}
 use Rattle.seats.proofs.CallInvariant.{FitsCall}
@@ -41,7 +41,7 @@ use Rattle.seats.proofs.WholeChecks.{declare_by_whole, assign_by_whole}
 use Rattle.seats.proofs.LoadRefusals.{load_refusals}
 use Rattle.seats.proofs.LoadVerdict.{load_checks_in_order, load_settles, read_judged, read_passed, measure-refuses, measure_loads}
 use Rattle.seats.proofs.ImageAlone.{load_alone}
-use Rattle.seats.proofs.OneOutcome.{one_outcome, one_image, one_measured, one_left}
+use Rattle.seats.proofs.OneOutcome.{Told, told, ToldFilled, told_filled, ToldLoaded, told_loaded, call_reasoned, load_reasoned, room_reasoned, one_outcome, one_image, one_measured, one_left}
 use Rattle.seats.proofs.SaveOutcomes.{no_written, same_short, has_room, no_room, saves, front_loads, front_same}
 
 -- Two outcomes that are the same have the same answer and the same state.
@@ -61,29 +61,46 @@ no_refusal : (a : Answer) → read_answer a ≡ accepted → refuses a ≡ false
 unfolding is_refusal
 no_refusal a e = ap is_refusal e
 
-load_number : (s t : State) (l : List ℕ) (a : Answer) (n p : ℕ) → LoadPromise s l a t → read_answer a ≡ refused n p → OfLoad n × (p ≡ 0)
+-- The number of a load's refusal is 6, 7 or 8, and its place 0.
+load_number : (s : seats.State) (l : List ℕ) (y : calls.Answer × seats.State) (n p : ℕ) → y ≡ load_over s l → y.0 ≡ refused n p → OfLoad n × (p ≡ 0)
 unfolding load_over settle_load
-load_number s t l a n p e r = go (load l) refl
+load_number s l y n p e r = go (load l) refl
   where
     go : (x : Loaded) → load l ≡ x → OfLoad n × (p ≡ 0)
-    go (loaded h) q = absurd (no_accepted (sym (by_part (e ∙ ap (settle_load (read_state s)) q)).0 ∙ r))
-    go (not_loaded m k) q = load_refusals l n p (q ∙ same (sym (by_part (e ∙ ap (settle_load (read_state s)) q)).0 ∙ r))
+    go (loaded h) q = absurd (no_accepted (sym (by_part (e ∙ ap (settle_load s) q)).0 ∙ r))
+    go (not_loaded m k) q = load_refusals l n p (q ∙ same (sym (by_part (e ∙ ap (settle_load s) q)).0 ∙ r))
       where
         same : refused m k ≡ refused n p → not_loaded m k ≡ not_loaded n p
         same w = let x : m ≡ n = cc in let y : k ≡ p = cc in rw (x, y)
 
+-- Each number that refuses a record, a load or a save is a reason's.
+step_told : (s : seats.State) (l : List ℕ) → Told (step s l).0
+step_told s l = told (step s l).0 (λ n p r. call_reasoned n (record_refused s (step s l) l refl n p r).0)
+
+load_over_told : (s : seats.State) (l : List ℕ) → Told (load_over s l).0
+load_over_told s l = told (load_over s l).0 (λ n p r. load_reasoned n (load_number s l (load_over s l) n p refl r).0)
+
+load_told : (l : List ℕ) → ToldLoaded (load l)
+load_told l = told_loaded (load l) (λ n p q. load_reasoned n (load_refusals l n p q).0)
+
+save_told : (s : seats.State) (buffer : List ℕ) → ToldFilled (save s buffer).0
+save_told s buffer = told_filled (save s buffer).0 (λ n p r. elim (saves s buffer (save s buffer).1 (save s buffer).0 refl) [
+  | has_room _ q _ ↦ absurd (no_written (sym q ∙ r))
+  | no_room _ q _ ↦ room_reasoned n (sym (same_short (sym q ∙ r)).0)
+])
+
 -- Demand 1.
 pub demand_one : DemandOne
 demand_one = record {
-  call_answered = λ s l. one_outcome (step (read_state s) l);
-  load_answered = λ s l. one_outcome (load_over (read_state s) l);
-  read_answered = λ l. one_image (load l);
-  measure_answered = λ l. one_measured (measure l);
-  save_answered = λ s buffer. one_left (save s buffer);
+  call_answered = λ s l. one_outcome (step (read_state s) l) (step_told (read_state s) l);
+  load_answered = λ s l. one_outcome (load_over (read_state s) l) (load_over_told (read_state s) l);
+  read_answered = λ l. one_image (load l) (load_told l);
+  measure_answered = λ l. one_measured l (load_told l);
+  save_answered = λ s buffer. one_left (save s buffer) (save_told s buffer);
   call_refused = λ s t l a n p e r.
       let (x, y) = record_refused (read_state s) (read_outcome (a, t)) l e n p r in
       (x, (record_refused_iff (read_state s) (read_outcome (a, t)) l e n p).0 r, y);
-  load_refused = λ s t l a n p e r. let (x, y) = load_number s t l a n p e r in (x, y, (load_settled s t l a e).refused_leaves n p r);
+  load_refused = λ s t l a n p e r. let (x, y) = load_number (read_state s) l (read_outcome (a, t)) n p e r in (x, y, (load_settled s t l a e).refused_leaves n p r);
   save_refused = λ s buffer left f n p e r. elim (saves s buffer left (read_filled f) e) [
     | has_room _ q _ ↦ absurd (no_written (sym q ∙ r))
     | no_room _ q w ↦ (let (x, y) = same_short (sym q ∙ r) in (sym x, sym y, w))

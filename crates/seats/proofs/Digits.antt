@@ -1,11 +1,11 @@
--- Numbers in base ten: the last digit stands behind those of the tenth, a word has at most 20 digits, and a byte 3.
+-- Numbers in base ten: the last digit stands behind those of the tenth, how many digits follows from the power of ten below, and a word has at most 20, a byte 3.
 -- Assumes nothing.
 use mathlib.Core.Bool.{Bool, true, false}
 use mathlib.Core.List.{List, [], ◌∷◌, ◌++◌, append_assoc}
 use mathlib.Core.Logic.{◌⊎◌, inl, inr}
 use mathlib.Core.Path.{◌≡◌, refl, sym, ap, ◌∙◌}
-use Prim.Native.Nat.{ℕ, zero, suc, ◌+◌, ◌/◌, ◌%◌, ◌^◌, ◌<◌, ◌≤◌}
-use native.Mathlib.Nat.{pow-suc, not-suc-le-zero}
+use Prim.Native.Nat.{ℕ, zero, suc, ◌+◌, ◌*◌, ◌/◌, ◌%◌, ◌^◌, ◌<◌, ◌≤◌}
+use native.Mathlib.Nat.{pow-suc, one-le-pow, not-suc-le-zero}
 use native.Mathlib.Omega.{arith}
 use lib.Dec.{ltb}
 use lib.ListN.{length, length-append}
@@ -83,6 +83,15 @@ width_upto (suc k) x h = elim (below_ten x) [
       let p = pow-suc 10 (suc k) in
       omega (arith, width_large x s, width_upto k (x / 10) (omega arith))
 ]
+
+-- A number from 10 ^ k on that is below ten times that has one digit more than k.
+pub width_power : (k x : ℕ) → 10 ^ k ≤ x → x < 10 * 10 ^ k → length (digits x) ≡ k + 1
+width_power zero x l h = width_small x (omega arith)
+width_power (suc k) x l h =
+    let p = pow-suc 10 k in
+    let o = one-le-pow k 10 (omega arith) in
+    let s : 10 ≤ x = omega arith in
+    omega (arith, width_large x s, width_power k (x / 10) (omega arith) (omega arith))
 
 pub width_word : (x : ℕ) → x < 2 ^ 64 → length (digits x) ≤ 20
 width_word x h = width_upto 19 x (omega arith)

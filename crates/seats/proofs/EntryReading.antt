@@ -68,13 +68,13 @@ module _ (part : Part) (present : ℕ) where
 
   -- One entry is stored, and others behind it.
   stored_first : (p : Part) (e : Entry) (l : List Entry) (t : List ℕ) → store_entries p l (store_entries p (e ∷ []) t) ≡ store_entries p (e ∷ l) t
-  unfolding store_entries stored stored_pairs
+  unfolding stored stored_pairs
   stored_first Roles e l t = refl
   stored_first Conflicts e l t = refl
   stored_first Seats e l t = refl
 
   stored_none : (p : Part) (t : List ℕ) → store_entries p [] t ≡ t
-  unfolding store_entries stored stored_pairs
+  unfolding stored stored_pairs
   stored_none Roles t = refl
   stored_none Conflicts t = refl
   stored_none Seats t = refl
@@ -102,7 +102,6 @@ module _ (part : Part) (present : ℕ) where
 
 -- What passes has a key that a set has a place for.
 pub passing_key : (part : Part) (present : ℕ) (e : Entry) → entry_passes part present e ≡ true → e.key < 64
-unfolding entry_passes
 passing_key Roles present e t = (role_number e (T_not (no_ordinary_number e) (subst T (sym t) tt))).1
 passing_key Conflicts present e t =
     let (x, y) = both (ltb e.key e.value) (ltb e.value privilege_count) (subst T (sym t) tt) in

@@ -1,7 +1,7 @@
 -- Entries in a slice of their own: the first chunk is the first entry, and a part's slice has the part's entries.
 -- Assumes nothing.
 use mathlib.Core.List.{List, [], ◌∷◌, ◌++◌}
-use mathlib.Core.Path.{◌≡◌, refl, sym, ap, ap₂, ◌∙◌}
+use mathlib.Core.Path.{◌≡◌, refl, sym, ap, ◌∙◌}
 use Prim.Native.Nat.{ℕ, zero, suc, ◌+◌, ◌-◌, ◌*◌, ◌/◌, ◌≤◌, ◌<◌}
 use native.Mathlib.Nat.{div-eq_of_lt, add-div_left, mul-suc, mul-div_cancel_left}
 use native.Mathlib.Omega.{arith}
@@ -11,13 +11,8 @@ use Rattle.std.proofs.lemmas.List.{take-append-drop, get_or_append_left}
 use Rattle.seats.specs.Bytes.{number_at}
 use Rattle.seats.specs.Images.{Counts, distance, entries_at, contents}
 use Rattle.seats.specs.ImageWork.{entry_of}
+use Rattle.seats.proofs.Numbers.{number_append, number_taken}
 use Rattle.seats.proofs.EntryBytes.{entries_drop}
-
-number_append : (n i : ℕ) (a b : List ℕ) → i + n ≤ length a → number_at n i (a ++ b) ≡ number_at n i a
-unfolding number_at
-number_append zero i a b h = refl
-number_append (suc n) i a b h =
-    ap₂ (λ (x y : ℕ). x + 256 * y) (get_or_append_left a b 0 i (omega arith)) (number_append n (suc i) a b (omega arith))
 
 entries_append : (n i c : ℕ) (a b : List ℕ) → i + (1 + n) * c ≤ length a → entries_at n i c (a ++ b) ≡ entries_at n i c a
 unfolding entries_at
@@ -62,25 +57,28 @@ slice_entries n i c m l e h =
     ∙ ap (entries_at n 0 c) (take-append-drop m (drop i l))
     ∙ entries_drop n i 0 c l ∙ ap (λ (k : ℕ). entries_at n k c l) (sym j)
 
--- The slices of the parts, one behind the other, have the entries of the contents.
-module _ (l : List ℕ) (i : ℕ) (n : Counts) (h : i + distance n ≤ length l) where
-  pub roles_sliced : (
-      let a = i + 8 in
-      let s = take ((a + 9 * n.roles) - a) (drop a l) in
-      entries_at 8 0 (length s / 9) s ≡ (contents l i n).roles)
+-- The slices of the parts, one behind the other, have the set and the entries of the contents.
+module _ (l : List ℕ) (n : Counts) (h : distance n ≤ length l) where
+  pub top_sliced : number_at 8 0 (take 8 l) ≡ (contents l 0 n).top
   unfolding contents distance
-  roles_sliced = slice_entries 8 (i + 8) n.roles _ l (omega arith) (omega arith)
+  top_sliced = number_taken 8 0 l (omega arith)
+
+  pub roles_sliced : (
+      let s = take ((8 + 9 * n.roles) - 8) (drop 8 l) in
+      entries_at 8 0 (length s / 9) s ≡ (contents l 0 n).roles)
+  unfolding contents distance
+  roles_sliced = slice_entries 8 8 n.roles _ l (omega arith) (omega arith)
 
   pub conflicts_sliced : (
-      let a = i + 8 + 9 * n.roles in
+      let a = 8 + 9 * n.roles in
       let s = take ((a + 2 * n.conflicts) - a) (drop a l) in
-      entries_at 1 0 (length s / 2) s ≡ (contents l i n).conflicts)
+      entries_at 1 0 (length s / 2) s ≡ (contents l 0 n).conflicts)
   unfolding contents distance
-  conflicts_sliced = slice_entries 1 (i + 8 + 9 * n.roles) n.conflicts _ l (omega arith) (omega arith)
+  conflicts_sliced = slice_entries 1 (8 + 9 * n.roles) n.conflicts _ l (omega arith) (omega arith)
 
   pub seats_sliced : (
-      let a = i + 8 + 9 * n.roles + 2 * n.conflicts in
+      let a = 8 + 9 * n.roles + 2 * n.conflicts in
       let s = take ((a + 9 * n.seats) - a) (drop a l) in
-      entries_at 8 0 (length s / 9) s ≡ (contents l i n).seats)
+      entries_at 8 0 (length s / 9) s ≡ (contents l 0 n).seats)
   unfolding contents distance
-  seats_sliced = slice_entries 8 (i + 8 + 9 * n.roles + 2 * n.conflicts) n.seats _ l (omega arith) (omega arith)
+  seats_sliced = slice_entries 8 (8 + 9 * n.roles + 2 * n.conflicts) n.seats _ l (omega arith) (omega arith)

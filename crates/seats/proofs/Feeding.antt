@@ -1,13 +1,12 @@
 -- Feeding a part of a tape: what is left of it, with the buffer and the state so far, comes to what the whole part comes to; and what a caller learns.
 -- Assumes nothing.
 use mathlib.Core.Bool.{Bool, true, false, cond, ◌||◌}
-use mathlib.Core.List.{List, [], ◌++◌, append_assoc, append-nil}
+use mathlib.Core.List.{List, [], ◌++◌, append-nil}
 use mathlib.Core.Path.{◌≡◌, refl, sym, ap, ap₂, ◌∙◌}
 use Prim.Native.Nat.{ℕ, min, ◌+◌, ◌-◌, ◌*◌, ◌/◌, ◌^◌, ◌≤◌, ◌<◌}
-use native.Mathlib.Nat.{zero-add}
 use native.Mathlib.Omega.{arith}
 use lib.ListN.{length, take, drop, length-append, length-drop, drop_of_length-le}
-use lib.Seq.{sets, sets-eq, length-sets, take_all, drop-drop}
+use lib.Seq.{sets, length-sets, take_all}
 use borrow.Rule.Slice.PartMut.{put_mid}
 use Rattle.std.proofs.lemmas.List.{take-append-drop}
 use lib.Dec.{leb, ltb}
@@ -19,7 +18,7 @@ use Rattle.seats.specs.Places.{record_at, record_end}
 use Rattle.seats.specs.Tape.{records, line, fed, PartAnswer, fills, uncounted, feed}
 use Rattle.seats.specs.Working.{record_count, longest_line, LinePut, PartRun}
 use Rattle.seats.specs.Written.{Written}
-use Rattle.seats.proofs.Written.{Unwritten, unwritten_all, unwritten_next, unwritten_none, filled, unfilled, fill_written}
+use Rattle.seats.proofs.Written.{put_behind, Unwritten, unwritten_all, unwritten_next, unwritten_none, filled, unfilled, fill_written}
 use Rattle.seats.proofs.Lines.{line_some}
 use Rattle.seats.proofs.TapeRecords.{count-records, records_first, fed_none}
 use Rattle.seats.proofs.TapePlaces.{records_more, fed_more}
@@ -36,17 +35,6 @@ pub record Lined (buffer : List ℕ) (b : Lines) (a : Answer) (after : List ℕ)
   pub longer : r.length ≡ b.length + length (line r.index a)
   pub bounded : r.length ≤ b.length + longest_line
   pub put : after ≡ cond (leb r.length (length buffer)) (sets buffer b.length (line r.index a)) buffer
-
--- What is written at the front of the part of a buffer from place k on.
-put_behind : (l w : List ℕ) (k : ℕ) {m : List ℕ} → k ≤ length l → m ≡ sets (drop k l) 0 w → length w ≤ length (drop k l) → put_mid k (length l - k) l m ≡ sets l k w
-put_behind l w k {m} h e f =
-    let d = drop k l in
-    let a = length-drop k l in
-    let front : sets d 0 w ≡ w ++ drop (length w) d = sets-eq w d 0 (omega arith) ∙ ap (λ (n : ℕ). w ++ drop n d) (zero-add (length w)) in
-    let none : drop (length l - k) d ≡ [] = drop_of_length-le d (omega arith) in
-    ap₂ (λ (x y : List ℕ). take k l ++ (x ++ y)) (e ∙ front) none
-    ∙ ap (λ (x : List ℕ). take k l ++ x) (append-nil (w ++ drop (length w) d) ∙ ap (λ (x : List ℕ). w ++ x) (drop-drop (length w) k l))
-    ∙ sym (append_assoc (take k l) w (drop (k + length w) l)) ∙ sym (sets-eq w l k (omega arith))
 
 -- Nothing is written there.
 put_nothing : (l : List ℕ) (k : ℕ) {m : List ℕ} → m ≡ drop k l → put_mid k (length l - k) l m ≡ l

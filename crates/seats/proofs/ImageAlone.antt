@@ -3,9 +3,10 @@
 use mathlib.Core.Path.{◌≡◌, refl, sym, ap, ◌∙◌}
 use mathlib.Core.List.{List, [], ◌++◌}
 use Prim.Native.Nat.{ℕ, ◌+◌, ◌-◌, ◌*◌, ◌^◌, ◌<◌, ◌≤◌}
+use native.Mathlib.Nat.{add-zero}
 use native.Mathlib.Omega.{arith}
-use lib.ListN.{length, length-append}
-use lib.Seq.{drop_at}
+use lib.ListN.{length, take, drop, length-append, length-drop}
+use lib.Seq.{drop_at, take_all}
 use borrow.Author.Tests.{le-ltb, le-leb}
 use Rattle.seats.specs.Bytes.{number_at}
 use Rattle.seats.specs.Images.{trailer_length, least_image, Counts, distance, trailer, entries_at, far_at, counts_at, contents, load_trailer, load}
@@ -13,14 +14,27 @@ use Rattle.seats.proofs.Numbers.{number_drop, number_behind}
 use Rattle.seats.proofs.EntryBytes.{entries_drop}
 use Rattle.seats.proofs.ImageLength.{length-trailer}
 
+-- The contents in what is left behind place i stand as much further in all bytes.
+contents_drop : (i j : ℕ) (n : Counts) (l : List ℕ) → contents (drop i l) j n ≡ contents l (i + j) n
+unfolding contents
+contents_drop i j n l =
+    let t = number_drop 8 i j l in
+    let r = entries_further 8 i (j + 8) n.roles (i + j + 8) l (omega arith) in
+    let c = entries_further 1 i (j + 8 + 9 * n.roles) n.conflicts (i + j + 8 + 9 * n.roles) l (omega arith) in
+    let s = entries_further 8 i (j + 8 + 9 * n.roles + 2 * n.conflicts) n.seats (i + j + 8 + 9 * n.roles + 2 * n.conflicts) l (omega arith) in
+    λ d. record { top = t d; roles = r d; conflicts = c d; seats = s d }
+  where
+    entries_further : (w i j c k : ℕ) (l : List ℕ) → k ≡ i + j → entries_at w j c (drop i l) ≡ entries_at w k c l
+    entries_further w i j c k l e = entries_drop w i j c l ∙ ap (λ (k : ℕ). entries_at w k c l) (sym e)
+
+-- A slice from place i on begins with the contents there.
+pub contents_sliced : (l : List ℕ) (i : ℕ) (n : Counts) → contents (take (length l - i) (drop i l)) 0 n ≡ contents l i n
+contents_sliced l i n = rw (take_all (length l - i) (drop i l) (omega (arith, length-drop i l))) (contents_drop i 0 n l ∙ ap (λ (k : ℕ). contents l k n) (add-zero i))
+
 module _ (p l : List ℕ) where
-  -- A number and entries at a place of the bytes stand as much further behind others.
+  -- A number at a place of the bytes stands as much further behind others.
   number_further : (n i : ℕ) → number_at n (length p + i) (p ++ l) ≡ number_at n i l
   number_further n i = sym (number_drop n (length p) i (p ++ l)) ∙ ap (number_at n i) (drop_at p l (length p) refl)
-
-  entries_further : (n i c k : ℕ) → k ≡ length p + i → entries_at n k c (p ++ l) ≡ entries_at n i c l
-  entries_further n i c k e =
-      ap (λ (j : ℕ). entries_at n j c (p ++ l)) e ∙ sym (entries_drop n (length p) i c (p ++ l)) ∙ ap (entries_at n i c) (drop_at p l (length p) refl)
 
   -- So does a number that is found from the end.
   number_from_end : (n k : ℕ) → k ≤ length l → number_at n (length (p ++ l) - k) (p ++ l) ≡ number_at n (length l - k) l
@@ -29,13 +43,7 @@ module _ (p l : List ℕ) where
       ap (λ (i : ℕ). number_at n i (p ++ l)) q ∙ number_further n (length l - k)
 
   contents_further : (i : ℕ) (n : Counts) → contents (p ++ l) (length p + i) n ≡ contents l i n
-  unfolding contents
-  contents_further i n =
-      let t = number_further 8 i in
-      let r = entries_further 8 (i + 8) n.roles (length p + i + 8) (omega arith) in
-      let c = entries_further 1 (i + 8 + 9 * n.roles) n.conflicts (length p + i + 8 + 9 * n.roles) (omega arith) in
-      let s = entries_further 8 (i + 8 + 9 * n.roles + 2 * n.conflicts) n.seats (length p + i + 8 + 9 * n.roles + 2 * n.conflicts) (omega arith) in
-      λ d. record { top = t d; roles = r d; conflicts = c d; seats = s d }
+  contents_further i n = sym (contents_drop (length p) i n (p ++ l)) ∙ ap (λ (m : List ℕ). contents m i n) (drop_at p l (length p) refl)
 
   module _ (h : trailer_length ≤ length l) where
     pub far_alone : far_at (p ++ l) (length (p ++ l)) ≡ far_at l (length l)

@@ -5,7 +5,6 @@ pub mod Decoding
 pub mod RecordBytes
 pub mod Requests
 pub mod Changing
-pub mod Scanning
 pub mod AskMeaning
 pub mod YesCount
 -- ---- the invariants, histories and demand 3

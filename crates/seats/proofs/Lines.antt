@@ -30,14 +30,16 @@ pub end-joined : (count edges : ℕ) → end_line count edges ≡ (101 ∷ 110 �
 unfolding end_line
 end-joined = joined (101 ∷ 110 ∷ 100 ∷ [])
 
+pub length-tail : (x y : ℕ) → length (tail_of x y) ≡ length (digits x) + length (digits y) + 3
+length-tail x y =
+    let b = length-append (digits x) (space ∷ (digits y ++ (line_feed ∷ []))) in
+    let d = length-append (digits y) (line_feed ∷ []) in
+    omega arith
+
 module _ (l t w : List ℕ) (x y : ℕ) (e : t ≡ w ++ tail_of x y) where
   -- How long a line is.
   pub length_joined : length t ≡ length w + length (digits x) + length (digits y) + 3
-  length_joined =
-      let a = length-append w (tail_of x y) in
-      let b = length-append (digits x) (space ∷ (digits y ++ (line_feed ∷ []))) in
-      let d = length-append (digits y) (line_feed ∷ []) in
-      ap length e ∙ omega arith
+  length_joined = ap length e ∙ omega (arith, length-append w (tail_of x y), length-tail x y)
 
   -- A line in a buffer that has room for it.
   pub line_filled : {m : List ℕ} {j : ℕ} → length w + length (digits x) + length (digits y) + 3 ≤ length l → Written l 0 (w ++ tail_of x y) m j → (written j, m) ≡ fill 9 t l

@@ -8,17 +8,21 @@ use Prim.Native.Nat.{ℕ, ◌-◌, ◌<◌, ◌≤◌}
 use lib.ListN.{length, replicate}
 use lib.Dec.{T, T_not, not_T, eqb, ltb, ltb→lt, lt→ltb}
 use borrow.Author.Tests.{lt-ltb, le-ltb, le-leb, lt-leb, eq-eqb, ne_eqb}
+use Rattle.std.specs.Prelude.{Option, Some, None, Ok, Err}
+use Rattle.std.specs.Option.{is_some}
+use Rattle.sets.specs.Counting.{any}
 use Rattle.sets.specs.Sets.{empty, included}
 use Rattle.sets.proofs.Tests.{both, join, passes, fails, decide}
 use Rattle.graph.specs.Graph.{privilege_count}
 use Rattle.graph.specs.Refusing.{Check, Verdict, passed, refused, verdict, Passes}
-use Rattle.graph.specs.Reading.{read_verdict}
-use Rattle.graph.specs.declared.Verdict.TheVariants.{Passed, Refused}
+use Rattle.graph.specs.Searching.{lowest_found}
+use Rattle.graph.specs.Reading.{read_verdict, read_found}
+use Rattle.graph.specs.declared.Reason.TheVariants.{BadEntry}
 use Rattle.graph.proofs.Refusals.{verdict_passes}
-use Rattle.graph.proofs.Judging.{stops, moves_on, refused_first, passed_first}
+use Rattle.graph.proofs.Judging.{stops, moves_on, refused_first, passed_first, place_found, place_none}
 use Rattle.seats.specs.Seats.{State, seat_count, fresh}
 use Rattle.seats.specs.Images.{Entry, least_image, Counts, distance, Contents, far_at, counts_at, contents, keys, end_sets, restored, no_ordinary_number, entry_checks, content_checks, Loaded, loaded, not_loaded, image_verdict, unless_refused, load_contents, load_trailer, load}
-use Rattle.seats.specs.ImageWork.{Part, Roles, Conflicts, Seats, entry_place, entry_passes, store_entries, ascends, EntriesStored}
+use Rattle.seats.specs.ImageWork.{Part, Roles, Conflicts, Seats, entry_place, entry_passes, ascends, EntriesStored}
 use Rattle.seats.proofs.EntryBytes.{Each, each_map}
 use Rattle.seats.proofs.AscendingEntries.{Rising}
 use Rattle.seats.proofs.LoadFacts.{role_number, number_role, Ordered, ordered, ordered_passes}
@@ -40,7 +44,6 @@ module _ (c : Contents) where
   tested part present l = rising_ascends (entry_place part) (entry_passes part present) 0 l
 
   test_ordered : T entries_test → Ordered c
-  unfolding entry_place entry_passes
   test_ordered t =
       let (u, s) = both (tests Roles 0 c.roles && tests Conflicts 0 c.conflicts) (tests Seats (keys c.roles) c.seats) t in
       let (r, p) = both (tests Roles 0 c.roles) (tests Conflicts 0 c.conflicts) u in
@@ -63,7 +66,6 @@ module _ (c : Contents) where
           (ltb→lt e.key seat_count x, m, n)
 
   ordered_test : Ordered c → T entries_test
-  unfolding entry_place entry_passes
   ordered_test o =
       join (tests Roles 0 c.roles && tests Conflicts 0 c.conflicts) (tests Seats (keys c.roles) c.seats)
       (join (tests Roles 0 c.roles) (tests Conflicts 0 c.conflicts)
@@ -118,7 +120,7 @@ module _ (c : Contents) where
     -- All are stored.
     pub contents_read : {seats : List ℕ} {another : ℕ} → EntriesStored Seats present c.seats (replicate seat_count empty) seats another
         → (verdict (entry_checks c) ≡ passed) × (◌≡◌ {A = State} (record { graph = record { roles = present; sets = sets; conflicts = conflicts }; seats = seats }) (restored c))
-    unfolding restored store_entries
+    unfolding restored
     contents_read s = (
       entries_verdict true (seats_test true s.tested),
       let k = r.keyed in
@@ -135,14 +137,14 @@ all_checks c = entry_checks c ++ content_checks (restored c)
 pub entries_refused : (c : Contents) → verdict (entry_checks c) ≡ refused 7 0 → load_contents c ≡ not_loaded 7 0
 unfolding load_contents unless_refused read_verdict
 entries_refused c q =
-    let z : refused 7 0 ≡ verdict (all_checks c) = refused_first (entry_checks c) (content_checks (restored c)) {v = Refused (record { number = 7; place = 0 })} (sym q) refl in
+    let z : refused 7 0 ≡ verdict (all_checks c) = refused_first (entry_checks c) (content_checks (restored c)) {v = Err (record { reason = BadEntry; place = 0 })} (sym q) refl in
     ap (λ (v : Verdict). unless_refused v (restored c)) (sym z)
 
 module _ (c : Contents) {h : State} (w : (verdict (entry_checks c) ≡ passed) × (h ≡ restored c)) (x : Bool) (k : verdict (content_checks h) ≡ cond x passed (refused 8 0)) where
   state_verdict : verdict (all_checks c) ≡ cond x passed (refused 8 0)
   unfolding read_verdict
   state_verdict =
-      passed_first (entry_checks c) (content_checks (restored c)) {v = Passed} (sym w.0) refl
+      passed_first (entry_checks c) (content_checks (restored c)) {v = Ok tt} (sym w.0) refl
       ∙ ap (λ (s : State). verdict (content_checks s)) (sym w.1)
       ∙ k
 
@@ -155,6 +157,11 @@ module _ (c : Contents) {h : State} (w : (verdict (entry_checks c) ≡ passed) �
   state_loaded t =
       ap (λ (v : Verdict). unless_refused v (restored c)) (state_verdict ∙ ap (λ (y : Bool). cond y passed (refused 8 0)) t)
       ∙ ap loaded (sym w.1)
+
+-- Whether a search finds a place is whether some number passes.
+pub finds : (k : ℕ) (f : ℕ → Bool) (x : Option ℕ) {b t : Bool} → read_found x ≡ lowest_found k f → b ≡ is_some x → b ≡ t → any k f ≡ t
+finds k f None e o t = place_none k f e refl ∙ sym o ∙ t
+finds k f (Some p) e o t = place_found k f e refl ∙ sym o ∙ t
 
 -- ---- the trailer
 pub too_few_bytes : (l : List ℕ) → length l < least_image → load l ≡ not_loaded 6 0

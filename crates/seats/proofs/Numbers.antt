@@ -1,4 +1,4 @@
--- Little-endian numbers: what is written as bytes is read back, and bytes that are read are written back.
+-- Little-endian numbers: what is written as bytes is read back, bytes that are read are written back, and a slice has the number at its place.
 -- Assumes nothing.
 use mathlib.Core.Path.{◌≡◌, refl, sym, ap, ap₂, ◌∙◌}
 use mathlib.Core.List.{List, [], ◌∷◌, ◌++◌}
@@ -6,7 +6,8 @@ use Prim.Native.Nat.{ℕ, zero, suc, ◌+◌, ◌*◌, ◌/◌, ◌%◌, ◌^◌
 use native.Mathlib.Nat.{pow-suc, add-zero, add-suc, not-suc-le-zero, zero-lt-suc}
 use native.Mathlib.Omega.{arith}
 use lib.ListN.{length, get_or, take, drop, length-drop}
-use lib.Seq.{get_or-drop, drop_at}
+use lib.Seq.{get_or-drop, drop_at, length-take-le}
+use Rattle.std.proofs.lemmas.List.{take-append-drop, get_or_append_left}
 use Rattle.seats.specs.Bytes.{bytes_of, number_at, Bytes}
 
 -- ---- lists of bytes
@@ -41,6 +42,26 @@ number_from n i l = sym (number_drop n i 0 l ∙ ap (λ (k : ℕ). number_at n k
 pub number_cons : (n x : ℕ) (l : List ℕ) → number_at (suc n) 0 (x ∷ l) ≡ x + 256 * number_at n 0 l
 unfolding number_at
 number_cons n x l = ap (λ (y : ℕ). x + 256 * y) (number_from n 1 (x ∷ l))
+
+-- Bytes behind a number change nothing of it.
+pub number_append : (n i : ℕ) (a b : List ℕ) → i + n ≤ length a → number_at n i (a ++ b) ≡ number_at n i a
+unfolding number_at
+number_append zero i a b h = refl
+number_append (suc n) i a b h =
+    ap₂ (λ (x y : ℕ). x + 256 * y) (get_or_append_left a b 0 i (omega arith)) (number_append n (suc i) a b (omega arith))
+
+-- The slice of n bytes at place i has the number there.
+module _ (n i : ℕ) (l : List ℕ) (h : i + n ≤ length l) where
+  pub length_sliced : length (take n (drop i l)) ≡ n
+  length_sliced = let f = length-drop i l in length-take-le n (drop i l) (omega arith)
+
+  pub number_taken : number_at n 0 (take n (drop i l)) ≡ number_at n i l
+  number_taken =
+      let e = length_sliced in
+      sym (number_append n 0 (take n (drop i l)) (drop n (drop i l)) (omega arith)) ∙ ap (number_at n 0) (take-append-drop n (drop i l)) ∙ sym (number_from n i l)
+
+  pub number_sliced : {m : ℕ} → m ≡ n → (let s = take m (drop i l) in number_at (length s) 0 s ≡ number_at n i l)
+  number_sliced e = rw (e, length_sliced) number_taken
 
 pub number_lt : (n i : ℕ) (l : List ℕ) → Bytes l → number_at n i l < 256 ^ n
 unfolding number_at

@@ -2,7 +2,7 @@
 -- Assumes nothing.
 use mathlib.Core.Path.{◌≡◌, sym, ap, ◌∙◌, subst}
 use mathlib.Core.List.{List, ◌++◌}
-use Prim.Native.Nat.{ℕ, ◌+◌, ◌≤◌, ◌<◌}
+use Prim.Native.Nat.{ℕ, ◌≤◌, ◌<◌}
 use native.Mathlib.Omega.{arith}
 use lib.ListN.{length}
 use Rattle.sets.specs.Sets.{difference, collect, size}
@@ -59,7 +59,7 @@ module _ {s : State} {o t : ℕ} {n : Counts} {far : ℕ} (k : Counted s o t n f
     saves_nothing h = let e = image_far in unfilled 9 buffer (image s) (omega arith)
 
     -- There is room for the image, and all of it is left to write.
-    pub image_fits : far ≤ length buffer → 0 + length (image s) ≤ length buffer
+    pub image_fits : far ≤ length buffer → length (image s) ≤ length buffer
     image_fits h = let e = image_far in omega arith
 
     pub image_left : Unwritten buffer 0 (image s) buffer 0 (bytes_of set_bytes (at s.graph.sets max_role)

@@ -5,10 +5,10 @@ use mathlib.Core.Path.{◌≡◌, refl, sym, ap, ap₂, ◌∙◌}
 use Prim.Native.Nat.{ℕ, zero, suc, ◌+◌, ◌*◌, ◌/◌, ◌%◌, ◌^◌, ◌≤◌}
 use native.Mathlib.Nat.{pow-suc, div-one, div-div-eq-div-mul}
 use native.Mathlib.Omega.{arith}
-use lib.ListN.{length, get_or, take, drop, replicate, length-drop}
+use lib.ListN.{length, get_or, take, drop, replicate}
 use Rattle.std.specs.Int.{w64, byte_at, bytes_low_first, to_le_bytes, from_le_bytes}
 use Rattle.seats.specs.Bytes.{bytes_of, number_at}
-use Rattle.seats.proofs.Numbers.{number_cons, number_from}
+use Rattle.seats.proofs.Numbers.{number_cons}
 
 pub one_byte : (i : ℕ) (l : List ℕ) → get_or l i 0 ≡ number_at 1 i l
 unfolding number_at
@@ -37,13 +37,12 @@ unfolding number_at
 zeros zero i l z = refl
 zeros (suc n) i l z = let a = z i in let b = zeros n (suc i) l z in omega arith
 
-front : (n m : ℕ) (d z : List ℕ) → n ≤ m → n ≤ length d → ((j : ℕ) → get_or z j 0 ≡ 0) → number_at m 0 (take n d ++ z) ≡ number_at n 0 d
+front : (m : ℕ) (l z : List ℕ) → length l ≤ m → ((j : ℕ) → get_or z j 0 ≡ 0) → number_at m 0 (l ++ z) ≡ number_at (length l) 0 l
 unfolding number_at
-front zero m d z h k e = zeros m 0 z e
-front (suc n) zero d z h k e = absurd (omega arith)
-front (suc n) (suc m) [] z h k e = absurd (omega arith)
-front (suc n) (suc m) (x ∷ d) z h k e =
-    number_cons m x (take n d ++ z) ∙ ap (λ (y : ℕ). x + 256 * y) (front n m d z (omega arith) (omega arith) e) ∙ sym (number_cons n x d)
+front m [] z h e = zeros m 0 z e
+front zero (x ∷ l) z h e = absurd (omega arith)
+front (suc m) (x ∷ l) z h e =
+    number_cons m x (l ++ z) ∙ ap (λ (y : ℕ). x + 256 * y) (front m l z (omega arith) e) ∙ sym (number_cons (length l) x l)
 
 -- Eight bytes make a word.
 word : (l : List ℕ) → from_le_bytes w64 l ≡ number_at 8 0 l
@@ -57,9 +56,8 @@ none zero (suc j) (suc k) = none zero j k
 none (suc n) j zero = refl
 none (suc n) j (suc k) = none n j k
 
--- The n bytes at a place, with zeros for the others, make the word of their number.
-pub number_padded : (n i : ℕ) (l : List ℕ) → n ≤ 8 → i + n ≤ length l → from_le_bytes w64 (take n (drop i l) ++ drop n (replicate 8 0)) ≡ number_at n i l
-number_padded n i l h k =
-    word (take n (drop i l) ++ drop n (replicate 8 0))
-    ∙ front n 8 (drop i l) (drop n (replicate 8 0)) h (omega (arith, length-drop i l)) (λ j. none n j 8)
-    ∙ sym (number_from n i l)
+-- At most eight bytes, with zeros for the others, make the word of their number.
+pub number_padded : (l : List ℕ) → length l ≤ 8 → from_le_bytes w64 (l ++ drop (length l) (replicate 8 0)) ≡ number_at (length l) 0 l
+number_padded l h =
+    let z = drop (length l) (replicate 8 0) in
+    word (l ++ z) ∙ front 8 l z h (λ j. none (length l) j 8)

@@ -3,12 +3,12 @@
 use mathlib.Core.Bool.{Bool, true, false, cond}
 use mathlib.Core.List.{List, [], ◌∷◌, ◌++◌, append_assoc, append-nil}
 use mathlib.Core.Path.{◌≡◌, refl, sym, ap, ap₂, ◌∙◌}
-use Prim.Native.Nat.{ℕ, suc, ◌+◌, ◌<◌, ◌≤◌}
+use Prim.Native.Nat.{ℕ, suc, ◌+◌, ◌-◌, ◌<◌, ◌≤◌}
 use native.Mathlib.Nat.{add-zero, zero-add}
 use native.Mathlib.Omega.{arith}
 use lib.Dec.{leb}
-use lib.ListN.{length, set, take, drop, length-append}
-use lib.Seq.{sets, length-sets, sets-eq, take_at, drop-drop}
+use lib.ListN.{length, set, take, drop, length-append, length-drop, drop_of_length-le}
+use lib.Seq.{sets, length-sets, sets-eq, take_all, take_at, drop-drop}
 use borrow.Rule.Slice.PartMut.{put_mid}
 use borrow.Author.Tests.{le-leb, lt-leb}
 use Rattle.seats.specs.Bytes.{Filled, written, too_short, fill}
@@ -31,9 +31,44 @@ and_then {l} {m} {n} {v} {w} {i} {j} p q = record {
 pub one_written : (l : List ℕ) (i x : ℕ) → Written l i (x ∷ []) (set l i x) (i + 1)
 one_written l i x = record { list = refl; place = refl }
 
--- The list stays as long as it was.
-pub written_length : {l w m : List ℕ} {i j : ℕ} → Written l i w m j → length m ≡ length l
-written_length {l} {w} {m} {i} p = ap length p.list ∙ length-sets l i w
+-- ---- written into a part of a list
+-- A piece is put over the part of the list that is as long.
+pub piece_put : (l w : List ℕ) (i k : ℕ) → k ≡ length w → i + k ≤ length l → Written l i w (put_mid i k l w) (i + k)
+piece_put l w i k e h = record {
+  list =
+      ap (λ (r : List ℕ). take i l ++ (w ++ r)) (drop-drop k i l ∙ ap (λ (n : ℕ). drop (i + n) l) e)
+      ∙ sym (append_assoc (take i l) w (drop (i + length w) l)) ∙ sym (sets-eq w l i (omega arith));
+  place = ap (λ (n : ℕ). i + n) e;
+}
+
+-- A piece is put over the front of the list.
+pub front_written : (l w : List ℕ) {k : ℕ} → k ≡ length w → k ≤ length l → Written l 0 w (put_mid 0 k l w) k
+front_written l w {k} e h = rw (zero-add k) at (piece_put l w 0 k e (omega arith))
+
+-- What is put at the front of the part of a list from place i on is put at that place.
+pub put_behind : (l w : List ℕ) (k : ℕ) {m : List ℕ} → k ≤ length l → m ≡ sets (drop k l) 0 w → length w ≤ length (drop k l) → put_mid k (length l - k) l m ≡ sets l k w
+put_behind l w k {m} h e f =
+    let d = drop k l in
+    let a = length-drop k l in
+    let front : sets d 0 w ≡ w ++ drop (length w) d = sets-eq w d 0 (omega arith) ∙ ap (λ (n : ℕ). w ++ drop n d) (zero-add (length w)) in
+    let none : drop (length l - k) d ≡ [] = drop_of_length-le d (omega arith) in
+    ap₂ (λ (x y : List ℕ). take k l ++ (x ++ y)) (e ∙ front) none
+    ∙ ap (λ (x : List ℕ). take k l ++ x) (append-nil (w ++ drop (length w) d) ∙ ap (λ (x : List ℕ). w ++ x) (drop-drop (length w) k l))
+    ∙ sym (append_assoc (take k l) w (drop (k + length w) l)) ∙ sym (sets-eq w l k (omega arith))
+
+-- A piece written at the front of what is behind place i stands at that place of the whole.
+pub behind : {l w m : List ℕ} {i n : ℕ} → i + length w ≤ length l → Written (take (length l - i) (drop i l)) 0 w m n → Written l i w (put_mid i (length l - i) l m) (i + n)
+behind {l} {w} {i = i} h p =
+    let d = length-drop i l in
+    let whole : take (length l - i) (drop i l) ≡ drop i l = take_all (length l - i) (drop i l) (omega arith) in
+    record {
+      list = put_behind l w i (omega arith) (p.list ∙ ap (λ (x : List ℕ). sets x 0 w) whole) (omega arith);
+      place = ap (λ (k : ℕ). i + k) (p.place ∙ zero-add (length w));
+    }
+
+-- The place behind a piece, by the piece's length.
+pub placed : {l w m : List ℕ} {i j : ℕ} → Written l i w m j → Written l i w m (i + length w)
+placed p = record { list = p.list; place = refl }
 
 -- What is written at the front of a list that has room.
 pub written_front : {l w m : List ℕ} {j : ℕ} → Written l 0 w m j → length w ≤ length l → m ≡ w ++ drop (length w) l
@@ -64,22 +99,19 @@ unwritten_next {list = list} {i = i} piece rest u p = record {
   place = let a = u.place in let b = p.place in omega (arith, length-append piece rest);
 }
 
+-- One piece more is written at the front of what is behind.
+pub unwritten_behind : {old whole list part : List ℕ} {i n : ℕ} (piece rest : List ℕ) → Unwritten old 0 whole list i (piece ++ rest) → length whole ≤ length old
+    → Written (take (length list - i) (drop i list)) 0 piece part n → Unwritten old 0 whole (put_mid i (length list - i) list part) (i + n) rest
+unwritten_behind piece rest u h p = unwritten_next piece rest u (behind (piece_room piece rest u (omega arith)) p)
+
 -- Nothing is left.
 pub unwritten_none : {old whole list : List ℕ} {start i : ℕ} → Unwritten old start whole list i [] → Written old start whole list i
 unwritten_none {i = i} u = record { list = u.same; place = sym (add-zero i) ∙ u.place }
 
 -- The last piece is written.
-pub unwritten_last : {old whole list after : List ℕ} {start i next : ℕ} (piece : List ℕ) → Unwritten old start whole list i piece → Written list i piece after next → Written old start whole after next
-unwritten_last piece u p = unwritten_none (unwritten_next piece [] (rw (append-nil piece) u) p)
-
--- A piece is put over the part of the list that is as long.
-pub piece_put : (l w : List ℕ) (i k : ℕ) → k ≡ length w → i + k ≤ length l → Written l i w (put_mid i k l w) (i + k)
-piece_put l w i k e h = record {
-  list =
-      ap (λ (r : List ℕ). take i l ++ (w ++ r)) (drop-drop k i l ∙ ap (λ (n : ℕ). drop (i + n) l) e)
-      ∙ sym (append_assoc (take i l) w (drop (i + length w) l)) ∙ sym (sets-eq w l i (omega arith));
-  place = ap (λ (n : ℕ). i + n) e;
-}
+pub unwritten_last : {old whole list part : List ℕ} {i n : ℕ} (piece : List ℕ) → Unwritten old 0 whole list i piece → length whole ≤ length old
+    → Written (take (length list - i) (drop i list)) 0 piece part n → Written old 0 whole (put_mid i (length list - i) list part) (i + n)
+unwritten_last piece u h p = unwritten_none (unwritten_behind piece [] (rw (append-nil piece) u) h p)
 
 -- ---- what fills a buffer's front
 module _ (refusal : ℕ) (l w : List ℕ) where

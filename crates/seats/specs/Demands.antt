@@ -25,7 +25,7 @@ use Rattle.seats.specs.ListTheorem.{Start}
 use Rattle.seats.specs.Promises.{StepPromise, LoadPromise, ReadPromise, MeasurePromise, SavePromise, KeeperStart, DemandThreeOnCode}
 use Rattle.seats.specs.Reading.{read_state, read_answer, read_filled, read_image, read_measured}
 use Rattle.seats.specs.declared.State.{State}
-use Rattle.seats.specs.declared.Answer.{Answer}
+use Rattle.seats.specs.Replies.{Answer}
 
 -- ---- what the demands are said with
 

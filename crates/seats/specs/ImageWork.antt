@@ -1,11 +1,10 @@
 -- What the functions that save and load images promise each other: the entries of a set's members, and entries read and tested.
-use Rattle.std.specs.Prelude.{◌≡◌, Bool, true, false, not, ◌&&◌, List, [], ◌∷◌, ℕ, suc, ◌+◌, ◌<◌, get_or, eqb, leb, ltb, Option, Some, None}
+use Rattle.std.specs.Prelude.{◌≡◌, Bool, true, false, not, ◌&&◌, List, [], ◌∷◌, ℕ, suc, ◌+◌, ◌<◌, eqb, leb, ltb, Option, Some, None}
 use Rattle.sets.specs.Sets.{empty, member, included}
 use Rattle.graph.specs.Tables.{at}
 use Rattle.graph.specs.Graph.{privilege_count}
 use Rattle.graph.specs.Refusing.{passed, refused, verdict}
 use Rattle.graph.specs.Reading.{sets_in}
-use Rattle.seats.specs.Bytes.{number_at}
 use Rattle.seats.specs.Seats.{State, seat_count}
 use Rattle.seats.specs.Images.{Entry, listed_from, conflict_entries, set_bytes, role_set_bytes, privilege_bytes, Contents, Counts, keys, stored, stored_pairs, restored, pair_place, no_ordinary_number, entry_checks}
 

@@ -8,6 +8,7 @@ pub mod Saving
 pub mod Lists
 pub mod Tape
 pub mod Places
+pub mod Replies
 pub mod Reading
 pub mod Working
 pub mod ImageWork

@@ -13,7 +13,7 @@ use Rattle.seats.specs.Lists.{answers, end}
 use Rattle.seats.specs.ListTheorem.{ListTheorem}
 use Rattle.seats.specs.Reading.{read_state, read_answer, read_filled, read_image, read_measured}
 use Rattle.seats.specs.declared.State.{State}
-use Rattle.seats.specs.declared.Answer.{Answer}
+use Rattle.seats.specs.Replies.{Answer}
 use Rattle.graph.specs.declared.Refusal.{Refusal}
 
 -- A state is fresh.

@@ -1,27 +1,27 @@
-// Answers: a refusal as one, and the number and the place that stand for one.
-ghost use Rattle.std.specs.Prelude.{◌≡◌};
-ghost use Rattle.seats.specs.Calls.{refused};
+// Answers: the number and the place that stand for one.
+ghost use Rattle.std.specs.Prelude.{◌≡◌, Ok};
 ghost use Rattle.seats.specs.Tape.{answer_number, answer_place};
 ghost use Rattle.seats.specs.Reading.{read_answer};
 
-use crate::Answer;
-use graph::Refusal;
-
-// A refusal as an answer.
-pub fn refusal(number: u8, place: u8) -> Answer
-    ensures { read_answer result ≡ refused number place }
-{
-    Answer::Refused(Refusal { number, place })
-}
+use crate::{Answer, Reply};
 
 // The number that stands for an answer.
 pub fn number_of(answer: Answer) -> u8
     ensures { result ≡ answer_number (read_answer answer) }
 {
     match answer {
-        Answer::Accepted => 0,
-        Answer::Answered(_) => 0,
-        Answer::Refused(refusal) => refusal.number,
+        Ok(_) => 0,
+        Err(refusal) => refusal.reason.number(),
+    }
+}
+
+// The place of a reply: an ask's yes has place 1.
+fn place_of_reply(reply: Reply) -> u8
+    ensures { result ≡ answer_place (read_answer (Ok reply)) }
+{
+    match reply {
+        Reply::Accepted => 0,
+        Reply::Answered(held) => u8::from(held),
     }
 }
 
@@ -30,8 +30,7 @@ pub fn place_of(answer: Answer) -> u8
     ensures { result ≡ answer_place (read_answer answer) }
 {
     match answer {
-        Answer::Accepted => 0,
-        Answer::Answered(held) => if held { 1 } else { 0 },
-        Answer::Refused(refusal) => refusal.place,
+        Ok(reply) => place_of_reply(reply),
+        Err(refusal) => refusal.place,
     }
 }

@@ -4,25 +4,24 @@ ghost use Rattle.graph.specs.Reading.{read_set};
 ghost use Rattle.seats.specs.Bytes.{number_at};
 ghost use Rattle.seats.specs.Images.{set_bytes};
 
-use crate::image::SET;
 use graph::PrivilegeSet;
 
-// The little-endian number of the n bytes at place i.
-pub(crate) fn number(bytes: &[u8], i: usize, n: usize) -> u64
-    requires { (n ≤ 8) × (i + n ≤ length bytes.now) }
-    ensures { (result ≡ number_at n i bytes.now) × (result < 256 ^ n) }
+// The little-endian number of the bytes, of which there are at most eight.
+pub(crate) fn number(bytes: &[u8]) -> u64
+    requires { length bytes.now ≤ 8 }
+    ensures { (result ≡ number_at (length bytes.now) 0 bytes.now) × (result < 256 ^ length bytes.now) }
 {
     let mut word = [0; 8];
-    word[..n].copy_from_slice(&bytes[i..i + n]);
+    word[..bytes.len()].copy_from_slice(bytes);
     u64::from_le_bytes(word)
 }
 
-// The set of privileges whose bytes stand at place i.
-pub(crate) fn set_at(bytes: &[u8], i: usize) -> PrivilegeSet
-    requires { i + set_bytes ≤ length bytes.now }
-    ensures { read_set result ≡ number_at set_bytes i bytes.now }
+// The set of privileges that the bytes hold.
+pub(crate) fn set(bytes: &[u8]) -> PrivilegeSet
+    requires { length bytes.now ≡ set_bytes }
+    ensures { read_set result ≡ number_at set_bytes 0 bytes.now }
 {
     PrivilegeSet {
-        word: number(bytes, i, SET),
+        word: number(bytes),
     }
 }

@@ -6,8 +6,9 @@ ghost use Rattle.seats.specs.ImageWork.{Small, Part, Roles, Conflicts, Seats, va
 
 use crate::Counts;
 use crate::endian::number;
-use graph::table::{entry, roles_at, store, store_roles};
-use graph::{Privilege, PrivilegeSet, privileges};
+use graph::table::{entry, store};
+use graph::{Privilege, PrivilegeSet};
+use sets::Set;
 
 // How many bytes a set of privileges takes, a set of roles, and a privilege.
 pub(crate) const SET: usize = 8;
@@ -30,6 +31,7 @@ pub(crate) const LEAST: usize = SET + TRAILER;
 
 // A part of an image that is entries, each of a key and a value: how they are told, and what is made of them in a table.
 pub(crate) trait Part {
+    // The part of the definitions that it is.
     ghost part: { Part };
 
     // How many bytes the value of an entry takes.
@@ -81,7 +83,7 @@ impl Part for RoleEntries {
     }
 
     fn value_at(table: &[u64], n: usize) -> u64 {
-        entry(table, n).word
+        entry::<PrivilegeSet>(table, n).word()
     }
 }
 
@@ -105,9 +107,9 @@ impl Part for ConflictEntries {
 
     fn put(table: &mut [u64], key: u8, value: u64) {
         let lower = usize::from(key);
-        let row = entry(table, lower);
-        let higher = privileges::single(Privilege(value as u8));
-        store(table, lower, privileges::union(row, higher));
+        let row: PrivilegeSet = entry(table, lower);
+        let higher = PrivilegeSet::single(Privilege(value as u8));
+        store(table, lower, row.union(higher));
     }
 
     fn value_at(_table: &[u64], n: usize) -> u64 {
@@ -130,15 +132,15 @@ impl Part for SeatEntries {
     }
 
     fn passes(key: u8, value: u64, present: u64) -> bool {
-        key < 64 && value != 0 && sets::included(value, present)
+        key < 64 && value != 0 && value.included(present)
     }
 
     fn put(table: &mut [u64], key: u8, value: u64) {
-        store_roles(table, usize::from(key), value);
+        store(table, usize::from(key), value);
     }
 
     fn value_at(table: &[u64], n: usize) -> u64 {
-        roles_at(table, n)
+        entry(table, n)
     }
 }
 
@@ -153,14 +155,15 @@ pub(crate) fn distance(counts: Counts) -> usize
         + CONFLICT_ENTRY * counts.conflicts
 }
 
-// The counts in the trailer before a place.
-pub(crate) fn counts_at(bytes: &[u8], end: usize) -> Counts
-    requires { (trailer_length ≤ end) × (end ≤ length bytes.now) }
-    ensures { (read_counts result ≡ counts_at bytes.now end) × Small (read_counts result) }
+// The counts in the trailer that ends the bytes.
+pub(crate) fn counts_at_end(bytes: &[u8]) -> Counts
+    requires { trailer_length ≤ length bytes.now }
+    ensures { (read_counts result ≡ counts_at bytes.now (length bytes.now)) × Small (read_counts result) }
 {
+    let end = bytes.len();
     Counts {
         roles: usize::from(bytes[end - 4]),
         seats: usize::from(bytes[end - 3]),
-        conflicts: number(bytes, end - 2, 2) as usize,
+        conflicts: number(&bytes[end - 2..]) as usize,
     }
 }

@@ -1,4 +1,5 @@
 // Seats over the role graph: records and the calls they carry, asks, images, and the lines of a tape.
+// Numbers are cast by `as`, of which the check refuses one that would lose bits, so `From` would say no more.
 
 #![tactic(auto)]
 
@@ -16,10 +17,11 @@ pub mod stepping;
 pub mod text;
 mod writing;
 
-use graph::{Change, ConflictEntry, Privilege, Refusal, Role};
+use graph::table::Row;
+use graph::{Change, Privilege, PrivilegeSet, Refusal, Role, RoleGraph};
 
 // A seat's number.
-#[derive(Clone, Copy)]
+#[derive(Clone, Copy, PartialEq, Eq)]
 pub struct Seat(pub u8);
 
 // What a keeper holds: the role graph, and by seat number the set of the seat's roles.
@@ -29,6 +31,14 @@ pub struct State {
     pub sets: [u64; 64],
     pub conflicts: [u64; 64],
     pub seats: [u64; 64],
+}
+
+// A state with its tables lent.
+#[derive(Clone, Copy)]
+pub struct LentState<'a> {
+    pub graph: RoleGraph<'a>,
+    pub conflicts: &'a [u64],
+    pub seats: &'a [u64],
 }
 
 // A call that draws nothing anew, kinds 8 to 12, with the fields that its kind names.
@@ -48,55 +58,28 @@ pub enum Call {
     Request(Request),
 }
 
-// A call as a record carries it.
+// A call as a record carries it; a struct around one field, since document 01 names the form.
 #[derive(Clone, Copy)]
 pub struct Step {
     pub call: Call,
 }
 
-// Accepted, an ask's yes or no, or a refusal with its number and place.
-#[derive(Clone, Copy)]
-pub enum Answer {
+// What a call that is not refused gives: nothing more, or an ask's yes or no.
+#[derive(Clone, Copy, PartialEq, Eq)]
+pub enum Reply {
     Accepted,
     Answered(bool),
-    Refused(Refusal),
 }
 
-// The roles of a seat.
-#[derive(Clone, Copy)]
-pub struct SeatEntry {
-    pub seat: usize,
-    pub roles: u64,
-}
+// Accepted, an ask's yes or no, or a refusal.
+pub type Answer = Result<Reply, Refusal>;
 
-// What a request stores: nothing, the conflicts of a privilege, or the roles of a seat.
+// What a request that is not refused comes to: the conflicts of a privilege or the roles of a seat to be stored, or an ask's yes or no.
 #[derive(Clone, Copy)]
-pub enum Stored {
-    Nothing,
-    ConflictsOf(ConflictEntry),
-    RolesOf(SeatEntry),
-}
-
-// What a request comes to: its answer, and what it stores.
-#[derive(Clone, Copy)]
-pub struct Decision {
-    pub answer: Answer,
-    pub stored: Stored,
-}
-
-// What a change comes to: its answer, and the roles and sets after it; a refused one has no sets.
-#[derive(Clone, Copy)]
-pub struct Changed {
-    pub answer: Answer,
-    pub roles: u64,
-    pub sets: [u64; 64],
-}
-
-// What a change or a record comes to where the tables are lent: its answer, and the roles after it.
-#[derive(Clone, Copy)]
-pub struct Taken {
-    pub answer: Answer,
-    pub roles: u64,
+pub enum Decided {
+    Conflicts(Row<PrivilegeSet>),
+    Roles(Row<u64>),
+    Answered(bool),
 }
 
 // What a record comes to: its answer, and the state after it.

@@ -5,25 +5,24 @@ ghost use Rattle.sets.specs.Sets.{empty, included};
 ghost use Rattle.graph.specs.Graph.{role_count, privilege_count, max_role, ordinary, effective};
 ghost use Rattle.graph.specs.Refusing.{passed, verdict};
 ghost use Rattle.graph.specs.Refusing as refusing;
-ghost use Rattle.graph.specs.Reading.{sets_in, drawn_from};
+ghost use Rattle.graph.specs.Reading.{sets_in, drawn};
 ghost use Rattle.seats.specs.Seats.{seat_count};
 ghost use Rattle.seats.specs.Images.{distance, entries_at, contents, content_checks, trailer_length, far_at, load_contents, image_verdict};
-ghost use Rattle.seats.specs.Reading.{state_of, read_image, read_counts};
+ghost use Rattle.seats.specs.Reading.{state_of, lent, read_image, read_counts};
 ghost use Rattle.seats.specs.Promises.{FreshPromise, ReadPromise, LoadPromise, MeasurePromise};
 ghost use Rattle.seats.specs.ImageWork.{value_bytes, part_width, table_in, EntriesRead, ContentsRead};
 
-use crate::endian::{number, set_at};
+use crate::endian::{number, set};
 use crate::image::{
     CONFLICT_ENTRY, ConflictEntries, LEAST, Part, ROLE_ENTRY, RoleEntries, SEAT_ENTRY, SET,
-    SeatEntries, TRAILER, counts_at, distance,
+    SeatEntries, TRAILER, counts_at_end, distance,
 };
-use crate::searches::pair_seat;
 use crate::writing::unplaced;
-use crate::{Answer, Counts, Loaded, State};
+use crate::{Counts, LentState, Loaded, Reply, State};
 use graph::drawing::ordinary_roles;
-use graph::searching::{empty_role, pair_role, twin_role};
-use graph::table::{entry, store};
-use graph::{Found, Refusal, privileges};
+use graph::table::store;
+use graph::{Reason, Refusal, Role, RoleGraph};
+use sets::Set;
 
 // Stores the entries of a part that the bytes hold, strictly ascending, in its table, and gives the set of their keys, or nothing where one is refused; the roles of a seat must be among those present.
 fn read_entries<P: Part>(entries: &[u8], present: u64, table: &mut [u64]) -> Option<u64>
@@ -34,81 +33,70 @@ fn read_entries<P: Part>(entries: &[u8], present: u64, table: &mut [u64]) -> Opt
     let mut low = 0;
     for entry in entries.chunks_exact(1 + value_bytes) {
         let key = entry[0];
-        let value = number(entry, 1, value_bytes);
+        let value = number(&entry[1..]);
         let place = P::place(key, value);
         if place < low || !P::passes(key, value, present) {
             return None;
         }
         P::put(table, key, value);
-        keys = sets::union(keys, sets::single(usize::from(key)));
+        keys = keys.union(u64::single(usize::from(key)));
         low = place + 1;
     }
     Some(keys)
 }
 
-// Stores the contents at a place, so many, in tables without a set; gives the roles, or nothing where an entry is refused.
+// Stores the contents at the start of the bytes, so many, in tables without a set; gives the roles, or nothing where an entry is refused.
 fn read_contents(
     bytes: &[u8],
-    at: usize,
     counts: Counts,
     sets: &mut [u64],
     conflicts: &mut [u64],
     seats: &mut [u64],
 ) -> Option<u64>
-    requires counts_in_bounds { at + distance (read_counts counts) ≤ length bytes.now }
+    requires counts_in_bounds { distance (read_counts counts) ≤ length bytes.now }
     requires empty_sets { sets_in sets.old ≡ replicate role_count empty }
     requires empty_conflicts { sets_in conflicts.old ≡ replicate privilege_count empty }
     requires empty_seats { seats.old ≡ replicate seat_count empty }
-    ensures { ContentsRead (contents bytes.now at (read_counts counts)) (λ roles. state_of roles sets.new conflicts.new seats.new) result }
+    ensures { ContentsRead (contents bytes.now 0 (read_counts counts)) (λ roles. state_of roles sets.new conflicts.new seats.new) result }
 {
-    let roles_at = at + SET;
-    let conflicts_at = roles_at + ROLE_ENTRY * counts.roles;
+    let conflicts_at = SET + ROLE_ENTRY * counts.roles;
     let seats_at = conflicts_at + CONFLICT_ENTRY * counts.conflicts;
     let end = seats_at + SEAT_ENTRY * counts.seats;
-    store(sets, 1, set_at(bytes, at));
-    let roles = read_entries::<RoleEntries>(&bytes[roles_at..conflicts_at], 0, sets)?;
+    store(sets, 1, set(&bytes[..SET]));
+    let roles = read_entries::<RoleEntries>(&bytes[SET..conflicts_at], 0, sets)?;
     read_entries::<ConflictEntries>(&bytes[conflicts_at..seats_at], 0, conflicts)?;
     read_entries::<SeatEntries>(&bytes[seats_at..end], roles, seats)?;
     Some(roles)
 }
 
 // Whether MaxRole lacks a privilege of some ordinary role.
-fn max_lacks(roles: u64, sets: &[u64]) -> bool
-    ensures { let g = drawn_from roles sets.now in result ≡ any role_count (λ r. ordinary g r && not (included (effective g r) (effective g max_role))) }
+fn max_lacks(graph: RoleGraph) -> bool
+    ensures { let g = drawn graph.entry in result ≡ any role_count (λ r. ordinary g r && not (included (effective g r) (effective g max_role))) }
 {
-    let top = entry(sets, 1);
-    let mut rest = ordinary_roles(roles);
-    while rest != 0 {
-        let r = sets::lowest_member(rest) as usize;
-        if !privileges::included(entry(sets, r), top) {
-            return true;
-        }
-        rest = sets::without_lowest(rest);
-    }
-    false
+    let top = graph.effective_of(Role(1));
+    ordinary_roles(graph.roles)
+        .members()
+        .any(|r| !graph.effective_of(Role(r)).included(top))
 }
 
 // Whether no condition of refusal 8 holds of a state, tested in their order.
-fn is_sound<'a>(roles: u64, sets: &'a [u64], conflicts: &'a [u64], seats: &'a [u64]) -> bool
-    ensures { verdict (content_checks (state_of roles sets.now conflicts.now seats.now)) ≡ cond result passed (refusing.refused 8 0) }
+fn is_sound(state: LentState) -> bool
+    ensures { verdict (content_checks (lent state.entry)) ≡ cond result passed (refusing.refused 8 0) }
 {
-    let empty = empty_role(roles, sets);
-    let Found::Nothing = empty else {
+    let graph = state.graph;
+    if graph.empty_role().is_some() {
         return false;
-    };
-    let twin = twin_role(roles, sets);
-    let Found::Nothing = twin else {
+    }
+    if graph.twin_role().is_some() {
         return false;
-    };
-    let pair = pair_role(roles, sets, conflicts);
-    let Found::Nothing = pair else {
+    }
+    if graph.pair_role(state.conflicts).is_some() {
         return false;
-    };
-    let seat = pair_seat(sets, conflicts, seats);
-    let Found::Nothing = seat else {
+    }
+    if state.pair_seat().is_some() {
         return false;
-    };
-    !max_lacks(roles, sets)
+    }
+    !max_lacks(graph)
 }
 
 // The distance in the trailer.
@@ -116,7 +104,8 @@ fn far_back(bytes: &[u8]) -> usize
     requires { trailer_length ≤ length bytes.now }
     ensures { result ≡ far_at bytes.now (length bytes.now) }
 {
-    number(bytes, bytes.len() - TRAILER, 4) as usize
+    let at = bytes.len() - TRAILER;
+    number(&bytes[at..at + 4]) as usize
 }
 
 // A fresh state.
@@ -131,27 +120,28 @@ pub fn fresh() -> State
     }
 }
 
-// The state that the contents at a place describe, or the refusal of them.
-fn read_state(bytes: &[u8], at: usize, counts: Counts) -> Result<State, Refusal>
-    requires { at + distance (read_counts counts) ≤ length bytes.now }
-    ensures { read_image result ≡ image_verdict (load_contents (contents bytes.now at (read_counts counts))) }
+// The state that the contents at the start of the bytes describe, or the refusal of them.
+fn read_state(bytes: &[u8], counts: Counts) -> Result<State, Refusal>
+    requires { distance (read_counts counts) ≤ length bytes.now }
+    ensures { read_image result ≡ image_verdict (load_contents (contents bytes.now 0 (read_counts counts))) }
 {
     let mut sets = [0u64; 64];
     let mut conflicts = [0u64; 64];
     let mut seats = [0u64; 64];
-    let read = read_contents(bytes, at, counts, &mut sets, &mut conflicts, &mut seats);
+    let read = read_contents(bytes, counts, &mut sets, &mut conflicts, &mut seats);
     let Some(roles) = read else {
-        return Err(unplaced(7));
+        return Err(unplaced(Reason::BadEntry));
     };
-    if !is_sound(roles, &sets, &conflicts, &seats) {
-        return Err(unplaced(8));
-    }
-    Ok(State {
+    let state = State {
         roles,
         sets,
         conflicts,
         seats,
-    })
+    };
+    if !is_sound(state.lent()) {
+        return Err(unplaced(Reason::UnsoundImage));
+    }
+    Ok(state)
 }
 
 // The state of the image that ends the bytes, or the refusal of it.
@@ -160,14 +150,14 @@ pub fn read_image(bytes: &[u8]) -> Result<State, Refusal>
 {
     let end = bytes.len();
     if end < LEAST {
-        return Err(unplaced(6));
+        return Err(unplaced(Reason::NoImage));
     }
     let far = far_back(bytes);
-    let counts = counts_at(bytes, end);
+    let counts = counts_at_end(bytes);
     if far != distance(counts) || end < far {
-        return Err(unplaced(6));
+        return Err(unplaced(Reason::NoImage));
     }
-    read_state(bytes, end - far, counts)
+    read_state(&bytes[end - far..], counts)
 }
 
 // The state of the image that ends the bytes; a refused load keeps the state at hand.
@@ -176,11 +166,11 @@ pub fn load(state: State, bytes: &[u8]) -> Loaded
 {
     match read_image(bytes) {
         Ok(read) => Loaded {
-            answer: Answer::Accepted,
+            answer: Ok(Reply::Accepted),
             state: read,
         },
         Err(refusal) => Loaded {
-            answer: Answer::Refused(refusal),
+            answer: Err(refusal),
             state,
         },
     }

@@ -1,4 +1,4 @@
-// The tape reader: a lent tape and the place of its next record, over functions of a plain slice and a number.
+// The tape reader: a lent tape and the place of its next record, over functions of a plain slice and a number; document 01 names the form.
 ghost use Rattle.std.specs.Prelude.{◌≡◌};
 ghost use Rattle.seats.specs.Places.{is_end, record_at, record_end};
 

@@ -7,10 +7,11 @@ ghost use Rattle.seats.specs.Records.{record_length, malformed, well_formed, fie
 ghost use Rattle.seats.specs.Reading.{read_call, read_request, read_decoded, read_fields, read_filled};
 ghost use Rattle.seats.specs.Working.{fields_of};
 
-use crate::endian::{number, set_at};
-use crate::writing::{put_byte, put_number, put_set, unplaced};
+use crate::endian::{number, set};
+use crate::writing::{put_number, put_set, unplaced};
 use crate::{Call, Request, Seat, Step};
-use graph::{Change, Privilege, PrivilegeSet, Refusal, Removal, Role, privileges};
+use graph::{Change, Privilege, PrivilegeSet, Reason, Refusal, Removal, Role};
+use sets::Set;
 
 // How many bytes a record has.
 pub const RECORD: usize = 32;
@@ -33,9 +34,9 @@ fn fields_in(bytes: &[u8]) -> Fields
     Fields {
         a: bytes[1],
         b: bytes[2],
-        x: set_at(bytes, 8),
-        y: number(bytes, 16, 8),
-        z: number(bytes, 24, 8),
+        x: set(&bytes[8..16]),
+        y: number(&bytes[16..24]),
+        z: number(&bytes[24..]),
     }
 }
 
@@ -43,14 +44,14 @@ fn fields_in(bytes: &[u8]) -> Fields
 fn is_record(bytes: &[u8]) -> bool
     ensures { result ≡ (eqb (length bytes.now) record_length && eqb (number_at 5 3 bytes.now) 0) }
 {
-    bytes.len() == RECORD && number(bytes, 3, 5) == 0
+    bytes.len() == RECORD && number(&bytes[3..8]) == 0
 }
 
 // Whether a set of privileges and two sets of roles are empty.
 fn unused(x: PrivilegeSet, y: u64, z: u64) -> bool
     ensures { result ≡ all_empty (read_set x ∷ y ∷ z ∷ []) }
 {
-    privileges::is_empty(x) && y == 0 && z == 0
+    x.is_empty() && y == 0 && z == 0
 }
 
 // The call, where b is no more than its kind allows and the sets that it does not name are empty.
@@ -79,6 +80,7 @@ fn decoded_request(b: u8, rest: bool, request: Request) -> Option<Step>
 }
 
 // What a removal's b says of the role's direct privileges; no well-formed record has more than 1.
+// A function, since `Removal` and `u8` both belong to other crates, and `From` may not join these here.
 fn removal(b: u8) -> Removal
     ensures { read_removal result ≡ min b 1 }
 {
@@ -100,7 +102,7 @@ fn named(kind: u8, fields: Fields) -> Option<Step>
         2 => decoded_change(
             b,
             0,
-            unused(privileges::empty(), y, z),
+            unused(PrivilegeSet::empty(), y, z),
             Change::AddByPrivileges(Role(a), x),
         ),
         3 => decoded_change(b, 1, none, Change::RemoveRole(Role(a), removal(b))),
@@ -147,12 +149,13 @@ pub fn write_add_by_privileges(
     ensures { (read_filled result, buffer.new) ≡ fill 9 (record_of 2 (fields_of role.0 0 (read_set own) 0 0)) buffer.old }
 {
     if buffer.len() < RECORD {
-        return Err(unplaced(9));
+        return Err(unplaced(Reason::BufferTooShort));
     }
-    let role_at = put_byte(buffer, 0, 2);
-    let b_at = put_byte(buffer, role_at, role.0);
-    let set_at = put_number(buffer, b_at, 6, 0);
-    let juniors_at = put_set(buffer, set_at, own);
-    let seniors_at = put_number(buffer, juniors_at, 8, 0);
-    Ok(put_number(buffer, seniors_at, 8, 0))
+    buffer[0] = 2;
+    buffer[1] = role.0;
+    put_number(&mut buffer[2..], 6, 0);
+    put_set(&mut buffer[8..], own);
+    put_number(&mut buffer[16..], 8, 0);
+    put_number(&mut buffer[24..], 8, 0);
+    Ok(RECORD)
 }

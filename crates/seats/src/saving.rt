@@ -10,60 +10,61 @@ ghost use Rattle.seats.specs.Bytes.{bytes_of};
 ghost use Rattle.seats.specs.Written.{Written};
 ghost use Rattle.seats.specs.Images.{privilege_bytes, entry_bytes, trailer_length, trailer};
 ghost use Rattle.seats.specs.Promises.{SavePromise};
-ghost use Rattle.seats.specs.Reading.{state_of, read_counts};
+ghost use Rattle.seats.specs.Reading.{lent, read_counts};
 ghost use Rattle.seats.specs.ImageWork.{Small, value_bytes, part_width, part_entries, row_entries, pair_entries};
 
-use crate::Counts;
 use crate::image::{ConflictEntries, Part, RoleEntries, SeatEntries, distance};
-use crate::writing::{put_byte, put_number, put_set, unplaced};
+use crate::writing::{put_number, put_set, unplaced};
+use crate::{Counts, LentState};
 use graph::drawing::ordinary_roles;
-use graph::table::{entry, roles_at};
-use graph::{Privilege, PrivilegeSet, Refusal, privileges};
+use graph::table::entry;
+use graph::{Privilege, PrivilegeSet, Reason, Refusal, Role};
+use sets::Set;
 
-// An entry of a part: its key, then its value.
-fn put_entry<P: Part>(buffer: &mut [u8], at: usize, key: u8, value: u64) -> usize
-    requires { at + part_width P.part ≤ length buffer.old }
-    ensures { Written buffer.old at (key ∷ bytes_of (value_bytes P.part) value) buffer.new result }
+// An entry of a part: its key, then its value; gives how many bytes it has.
+fn put_entry<P: Part>(buffer: &mut [u8], key: u8, value: u64) -> usize
+    requires { part_width P.part ≤ length buffer.old }
+    ensures { Written buffer.old 0 (key ∷ bytes_of (value_bytes P.part) value) buffer.new result × (result ≤ length buffer.old) }
 {
-    let value_at = put_byte(buffer, at, key);
-    put_number(buffer, value_at, P::value_bytes(), value)
+    let n = P::value_bytes();
+    buffer[0] = key;
+    put_number(&mut buffer[1..], n, value);
+    1 + n
 }
 
-// The entries of the keys in a part's table, ascending: the roles or the seats.
-fn put_table<P: Part>(buffer: &mut [u8], at: usize, keys: u64, table: &[u64]) -> usize
-    requires { at + length (entry_bytes (value_bytes P.part) (part_entries P.part keys table.now)) ≤ length buffer.old }
-    ensures { Written buffer.old at (entry_bytes (value_bytes P.part) (part_entries P.part keys table.now)) buffer.new result }
+// The entries of the keys in a part's table, ascending: the roles or the seats; gives how many bytes they have.
+fn put_table<P: Part>(buffer: &mut [u8], keys: u64, table: &[u64]) -> usize
+    requires { length (entry_bytes (value_bytes P.part) (part_entries P.part keys table.now)) ≤ length buffer.old }
+    ensures { Written buffer.old 0 (entry_bytes (value_bytes P.part) (part_entries P.part keys table.now)) buffer.new result × (result ≤ length buffer.old) }
 {
-    let mut place = at;
-    let mut rest = keys;
-    while rest != 0 {
-        let k = sets::lowest_member(rest);
-        place = put_entry::<P>(buffer, place, k as u8, P::value_at(table, k as usize));
-        rest = sets::without_lowest(rest);
+    let mut n: usize = 0;
+    for k in keys.members() {
+        n += put_entry::<P>(&mut buffer[n..], k, P::value_at(table, k as usize));
     }
-    place
+    n
 }
 
-// The conflicts of a lower privilege with higher ones.
-fn put_row(buffer: &mut [u8], at: usize, lower: u8, row: PrivilegeSet) -> usize
-    requires { at + length (entry_bytes privilege_bytes (row_entries lower (read_set row))) ≤ length buffer.old }
-    ensures { Written buffer.old at (entry_bytes privilege_bytes (row_entries lower (read_set row))) buffer.new result }
+// The conflicts of a lower privilege with higher ones, likewise.
+fn put_row(buffer: &mut [u8], lower: u8, row: PrivilegeSet) -> usize
+    requires { length (entry_bytes privilege_bytes (row_entries lower (read_set row))) ≤ length buffer.old }
+    ensures { Written buffer.old 0 (entry_bytes privilege_bytes (row_entries lower (read_set row))) buffer.new result × (result ≤ length buffer.old) }
 {
-    let mut place = at;
-    let mut rest = privileges::union(row, privileges::empty());
-    while !privileges::is_empty(rest) {
-        let higher = privileges::lowest_member(rest) as u64;
-        place = put_entry::<ConflictEntries>(buffer, place, lower, higher);
-        rest = privileges::without_lowest(rest);
+    let mut n: usize = 0;
+    for higher in row.members() {
+        n += put_entry::<ConflictEntries>(&mut buffer[n..], lower, higher as u64);
     }
-    place
+    n
 }
 
-// The higher privileges in conflict with a lower one.
+// The higher privileges in conflict with a lower one; most have none, so that none is cut off.
 fn row(conflicts: &[u64], lower: u8) -> PrivilegeSet
     ensures { read_set result ≡ collect privilege_count (conflict (sets_in conflicts.now) lower) }
 {
-    privileges::above(entry(conflicts, lower as usize), Privilege(lower))
+    let all: PrivilegeSet = entry(conflicts, lower as usize);
+    if all.is_empty() {
+        return all;
+    }
+    all.above(Privilege(lower))
 }
 
 // The conflicts of one row more counted; most rows of an image are empty and cost no count.
@@ -71,10 +72,10 @@ fn counted(n: usize, row: PrivilegeSet) -> usize
     requires { n ≤ 2016 }
     ensures { result ≡ n + size privilege_count (read_set row) }
 {
-    if privileges::is_empty(row) {
+    if row.is_empty() {
         n
     } else {
-        n + privileges::size(row) as usize
+        n + row.size() as usize
     }
 }
 
@@ -89,70 +90,62 @@ fn count_conflicts(conflicts: &[u64]) -> usize
     n
 }
 
-// The conflicts, row by row.
-fn put_conflicts(buffer: &mut [u8], at: usize, conflicts: &[u64]) -> usize
-    requires { at + length (entry_bytes privilege_bytes (pair_entries (sets_in conflicts.now))) ≤ length buffer.old }
-    ensures { Written buffer.old at (entry_bytes privilege_bytes (pair_entries (sets_in conflicts.now))) buffer.new result }
+// The conflicts, row by row, likewise; most rows of an image are empty and cost no slice.
+fn put_conflicts(buffer: &mut [u8], conflicts: &[u64]) -> usize
+    requires { length (entry_bytes privilege_bytes (pair_entries (sets_in conflicts.now))) ≤ length buffer.old }
+    ensures { Written buffer.old 0 (entry_bytes privilege_bytes (pair_entries (sets_in conflicts.now))) buffer.new result × (result ≤ length buffer.old) }
 {
-    let mut place = at;
+    let mut n: usize = 0;
     for lower in 0..64u8 {
-        place = put_row(buffer, place, lower, row(conflicts, lower));
+        let row = row(conflicts, lower);
+        if !row.is_empty() {
+            n += put_row(&mut buffer[n..], lower, row);
+        }
     }
-    place
+    n
 }
 
 // The seats that have roles.
 fn occupied(seats: &[u64]) -> u64
     ensures { result ≡ collect seat_count (λ i. not (eqb (at seats.now i) empty)) }
 {
-    let mut found: u64 = 0;
-    for i in 0..64usize {
-        let one = sets::when(roles_at(seats, i) != 0, sets::single(i));
-        found = sets::union(one, found);
-    }
-    found
+    (0..64usize).fold(0u64, |found, i| {
+        let held: u64 = entry(seats, i);
+        found.union(u64::single(i).when(held != 0))
+    })
 }
 
 // The trailer.
-fn put_trailer(buffer: &mut [u8], at: usize, counts: Counts) -> usize
-    requires { (at + trailer_length ≤ length buffer.old) × Small (read_counts counts) }
-    ensures { Written buffer.old at (trailer (read_counts counts)) buffer.new result }
+fn put_trailer(buffer: &mut [u8], counts: Counts)
+    requires { (trailer_length ≤ length buffer.old) × Small (read_counts counts) }
+    ensures { Written buffer.old 0 (trailer (read_counts counts)) buffer.new trailer_length }
 {
-    let far = distance(counts);
-    let a = put_number(buffer, at, 4, far as u64);
-    let b = put_number(buffer, a, 1, counts.roles as u64);
-    let c = put_number(buffer, b, 1, counts.seats as u64);
-    put_number(buffer, c, 2, counts.conflicts as u64)
+    put_number(buffer, 4, distance(counts) as u64);
+    buffer[4] = counts.roles as u8;
+    buffer[5] = counts.seats as u8;
+    put_number(&mut buffer[6..], 2, counts.conflicts as u64);
 }
 
 // The image at the buffer's front and its length; refusal 9, before anything is touched, where the buffer is shorter.
-pub fn save<'a>(
-    roles: u64,
-    sets: &'a [u64],
-    conflicts: &'a [u64],
-    seats: &'a [u64],
-    buffer: &mut [u8],
-) -> Result<usize, Refusal>
-    ensures { SavePromise (state_of roles sets.now conflicts.now seats.now) buffer.old result buffer.new }
+pub fn save(state: LentState, buffer: &mut [u8]) -> Result<usize, Refusal>
+    ensures { SavePromise (lent state.entry) buffer.old result buffer.new }
 {
-    let ordinary = ordinary_roles(roles);
-    let taken = occupied(seats);
-    let r = sets::size(ordinary) as usize;
-    let s = sets::size(taken) as usize;
-    let c = count_conflicts(conflicts);
+    let graph = state.graph;
+    let ordinary = ordinary_roles(graph.roles);
+    let taken = occupied(state.seats);
     let counts = Counts {
-        roles: r,
-        seats: s,
-        conflicts: c,
+        roles: ordinary.size() as usize,
+        seats: taken.size() as usize,
+        conflicts: count_conflicts(state.conflicts),
     };
     let length = distance(counts);
     if buffer.len() < length {
-        return Err(unplaced(9));
+        return Err(unplaced(Reason::BufferTooShort));
     }
-    let roles_at = put_set(buffer, 0, entry(sets, 1));
-    let conflicts_at = put_table::<RoleEntries>(buffer, roles_at, ordinary, sets);
-    let seats_at = put_conflicts(buffer, conflicts_at, conflicts);
-    let trailer_at = put_table::<SeatEntries>(buffer, seats_at, taken, seats);
-    put_trailer(buffer, trailer_at, counts);
+    let mut n = put_set(buffer, graph.effective_of(Role(1)));
+    n += put_table::<RoleEntries>(&mut buffer[n..], ordinary, graph.sets);
+    n += put_conflicts(&mut buffer[n..], state.conflicts);
+    n += put_table::<SeatEntries>(&mut buffer[n..], taken, state.seats);
+    put_trailer(&mut buffer[n..], counts);
     Ok(length)
 }

@@ -1,64 +1,61 @@
 // What a seat has and holds, and kind 12.
-ghost use Rattle.std.specs.Prelude.{◌≡◌, List, cond, ℕ, ◌≤◌};
+ghost use Rattle.std.specs.Prelude.{◌≡◌};
 ghost use Rattle.graph.specs.Tables.{at};
 ghost use Rattle.graph.specs.Reading.{read_set};
 ghost use Rattle.seats.specs.Seats.{held};
 ghost use Rattle.seats.specs.Records.{step};
 ghost use Rattle.seats.specs.ListTheorem.{ask_record};
-ghost use Rattle.seats.specs.Asks.{is_yes, yes_count};
-ghost use Rattle.seats.specs.Reading.{state_of, read_answer};
+ghost use Rattle.seats.specs.Asks.{yes_count};
+ghost use Rattle.seats.specs.Reading.{lent, read_asked};
 
-use crate::answers::refusal;
-use crate::{Answer, Seat};
-use graph::table::{roles_at, union_at};
-use graph::{Privilege, PrivilegeSet, privileges};
+use crate::{LentState, Seat};
+use graph::table::{entry, union_at};
+use graph::{Privilege, PrivilegeSet, Reason, Refusal};
+use sets::Set;
 
-// The roles of a seat.
-pub fn roles_of(seats: &[u64], seat: Seat) -> u64
-    ensures { result ≡ at seats.now seat.0 }
-{
-    roles_at(seats, seat.0 as usize)
-}
-
-// What a seat holds, whatever the roles present and the conflicts.
-pub fn held_by<'a>(sets: &'a [u64], seats: &'a [u64], seat: Seat) -> PrivilegeSet
-    ensures { (R : ℕ) (C : List ℕ) → read_set result ≡ held (state_of R sets.now C seats.now) seat.0 }
-{
-    union_at(sets, roles_of(seats, seat))
-}
-
-// Kind 12: what a record that asks would be answered next, whatever the roles present and the conflicts.
-pub fn ask<'a>(sets: &'a [u64], seats: &'a [u64], seat: Seat, privilege: Privilege) -> Answer
-    ensures { (R : ℕ) (C : List ℕ) → read_answer result ≡ (step (state_of R sets.now C seats.now) (ask_record seat.0 privilege.0)).0 }
-{
-    if 64 <= seat.0 {
-        return refusal(2, seat.0);
+impl<'a> LentState<'a> {
+    // The roles of a seat.
+    pub fn roles_of(self, seat: Seat) -> u64
+        ensures { result ≡ at self.entry.seats.now seat.0 }
+    {
+        entry(self.seats, seat.0 as usize)
     }
-    if 64 <= privilege.0 {
-        return refusal(2, privilege.0);
-    }
-    Answer::Answered(privileges::member(privilege, held_by(sets, seats, seat)))
-}
 
-// 1 for a yes, 0 for any other answer.
-fn yes(answer: Answer) -> u64
-    ensures { (result ≡ cond (is_yes (read_answer answer)) 1 0) × (result ≤ 1) }
-{
-    match answer {
-        Answer::Answered(held) => if held { 1 } else { 0 },
-        _ => 0,
+    // What a seat holds.
+    pub fn held_by(self, seat: Seat) -> PrivilegeSet
+        ensures { read_set result ≡ held (lent self.entry) seat.0 }
+    {
+        union_at(self.graph.sets, self.roles_of(seat))
     }
-}
 
-// How many of these asks, two bytes each, a seat and a privilege, are answered yes; a byte left over asks nothing.
-pub fn count_yes<'a>(sets: &'a [u64], seats: &'a [u64], asks: &[u8]) -> u64
-    ensures { (R : ℕ) (C : List ℕ) → result ≡ yes_count (state_of R sets.now C seats.now) asks.now }
-{
-    let pairs = asks.len() / 2;
-    let mut count: u64 = 0;
-    for i in 0..pairs {
-        let answer = ask(sets, seats, Seat(asks[2 * i]), Privilege(asks[2 * i + 1]));
-        count = count + yes(answer);
+    // Kind 12: what a record that asks would be answered next.
+    pub fn ask(self, seat: Seat, privilege: Privilege) -> Result<bool, Refusal>
+        ensures { read_asked result ≡ (step (lent self.entry) (ask_record seat.0 privilege.0)).0 }
+    {
+        if 64 <= seat.0 {
+            return Err(Refusal {
+                reason: Reason::UnknownNumber,
+                place: seat.0,
+            });
+        }
+        if 64 <= privilege.0 {
+            return Err(Refusal {
+                reason: Reason::UnknownNumber,
+                place: privilege.0,
+            });
+        }
+        Ok(self.held_by(seat).member(privilege))
     }
-    count
+
+    // How many of these asks, two bytes each, a seat and a privilege, are answered yes; a byte left over asks nothing.
+    pub fn count_yes(self, asks: &[u8]) -> u64
+        ensures { result ≡ yes_count (lent self.entry) asks.now }
+    {
+        let mut count: u64 = 0;
+        for pair in asks.chunks_exact(2) {
+            let answer = self.ask(Seat(pair[0]), Privilege(pair[1]));
+            count += u64::from(answer.unwrap_or(false));
+        }
+        count
+    }
 }

@@ -1,87 +1,82 @@
-// The step: what a record of any bytes makes of a state. Tables are decided on as they are lent, and what changes is stored.
+// The step: what a record of any bytes makes of a state. A call is decided on the state as it is lent, and what changes is stored.
 ghost use Rattle.std.specs.Prelude.{◌≡◌};
 ghost use Rattle.graph.specs.Reading.{read_change};
 ghost use Rattle.seats.specs.Calls.{change, perform};
 ghost use Rattle.seats.specs.Records.{step};
 ghost use Rattle.seats.specs.Promises.{StepPromise};
-ghost use Rattle.seats.specs.Reading.{state_of, read_answer, read_request};
+ghost use Rattle.seats.specs.Reading.{state_of, lent, read_state, read_answer, read_request};
 
-use crate::answers::refusal;
-use crate::{Answer, Call, Request, State, Stepped, Stored, Taken, deciding, records};
-use graph::Change;
-use graph::table::{store, store_roles};
+use crate::{Answer, Call, Decided, LentState, Reply, Request, State, Stepped, records};
+use graph::table::store;
+use graph::{Change, Reason, Refusal, RoleGraph};
 
-// A change of the graph on lent sets, which are written where it is accepted.
-fn take_change<'a>(
-    roles: u64,
-    sets: &mut [u64; 64],
-    conflicts: &'a [u64; 64],
-    seats: &'a [u64; 64],
-    edit: Change,
-) -> Taken
-    ensures { let s = state_of roles sets.old conflicts.now seats.now in (read_answer result.answer, state_of result.roles sets.new conflicts.now seats.now) ≡ perform s (change (read_change edit)) }
-{
-    let next = deciding::decide_change(roles, sets, conflicts, seats, edit);
-    let answer = next.answer;
-    match answer {
-        Answer::Accepted => {
-            let after = next.sets;
-            *sets = after;
-            Taken {
-                answer,
-                roles: next.roles,
-            }
-        }
-        _ => Taken { answer, roles },
-    }
-}
-
-// A request on lent conflicts and seats.
-pub fn take_request(
-    roles: u64,
-    sets: &[u64; 64],
-    conflicts: &mut [u64; 64],
-    seats: &mut [u64; 64],
-    request: Request,
-) -> Taken
-    ensures { let s = state_of roles sets.now conflicts.old seats.old in (read_answer result.answer, state_of result.roles sets.now conflicts.new seats.new) ≡ perform s (read_request request) }
-{
-    let decision = deciding::decide(roles, sets, conflicts, seats, request);
-    let answer = decision.answer;
-    let stored = decision.stored;
-    match stored {
-        Stored::Nothing => Taken { answer, roles },
-        Stored::ConflictsOf(entry) => {
-            store(conflicts, entry.lower, entry.higher);
-            Taken { answer, roles }
-        }
-        Stored::RolesOf(entry) => {
-            store_roles(seats, entry.seat, entry.roles);
-            Taken { answer, roles }
+impl<'a> LentState<'a> {
+    // The state of these roles and tables.
+    pub fn of(roles: u64, sets: &'a [u64], conflicts: &'a [u64], seats: &'a [u64]) -> LentState<'a>
+        ensures { lent result ≡ state_of roles sets.entry.now conflicts.entry.now seats.entry.now }
+    {
+        let graph = RoleGraph { roles, sets };
+        LentState {
+            graph,
+            conflicts,
+            seats,
         }
     }
 }
 
-// A record on lent tables: refusal 1 before any field is looked at, or the call.
-pub fn take(
-    roles: u64,
-    sets: &mut [u64; 64],
-    conflicts: &mut [u64; 64],
-    seats: &mut [u64; 64],
-    bytes: &[u8],
-) -> Taken
-    ensures { (read_answer result.answer, state_of result.roles sets.new conflicts.new seats.new) ≡ step (state_of roles sets.old conflicts.old seats.old) bytes.now }
-{
-    let Some(step) = records::decode(bytes) else {
-        return Taken {
-            answer: refusal(1, 0),
-            roles,
+impl State {
+    // The state with its tables lent.
+    pub fn lent(&self) -> LentState
+        ensures { lent result ≡ read_state self.now }
+    {
+        LentState::of(self.roles, &self.sets, &self.conflicts, &self.seats)
+    }
+
+    // A change, decided whole: the roles and the sets become those after it, where it is accepted.
+    fn redraw(&mut self, edit: Change) -> Answer
+        ensures { (read_answer result, read_state self.new) ≡ perform (read_state self.old) (change (read_change edit)) }
+    {
+        let next = self.lent().decide_change(edit)?;
+        let sets = next.sets;
+        self.roles = next.roles;
+        self.sets = sets;
+        Ok(Reply::Accepted)
+    }
+
+    // A change of the graph. What is refused early is refused before any table is made.
+    pub fn take_change(&mut self, edit: Change) -> Answer
+        ensures { (read_answer result, read_state self.new) ≡ perform (read_state self.old) (change (read_change edit)) }
+    {
+        self.lent().judge_early(edit)?;
+        self.redraw(edit)
+    }
+
+    // A request: what it stores is stored.
+    pub fn take_request(&mut self, request: Request) -> Answer
+        ensures { (read_answer result, read_state self.new) ≡ perform (read_state self.old) (read_request request) }
+    {
+        match self.lent().decide(request)? {
+            Decided::Conflicts(row) => store(&mut self.conflicts, row.at, row.set),
+            Decided::Roles(row) => store(&mut self.seats, row.at, row.set),
+            Decided::Answered(held) => return Ok(Reply::Answered(held)),
+        }
+        Ok(Reply::Accepted)
+    }
+
+    // A record: refusal 1 before any field is looked at, or the call.
+    pub fn take(&mut self, bytes: &[u8]) -> Answer
+        ensures { (read_answer result, read_state self.new) ≡ step (read_state self.old) bytes.now }
+    {
+        let Some(step) = records::decode(bytes) else {
+            return Err(Refusal {
+                reason: Reason::Malformed,
+                place: 0,
+            });
         };
-    };
-    let call = step.call;
-    match call {
-        Call::Change(change) => take_change(roles, sets, conflicts, seats, change),
-        Call::Request(request) => take_request(roles, sets, conflicts, seats, request),
+        match step.call {
+            Call::Change(edit) => self.take_change(edit),
+            Call::Request(request) => self.take_request(request),
+        }
     }
 }
 
@@ -89,19 +84,7 @@ pub fn take(
 pub fn step(state: State, bytes: &[u8]) -> Stepped
     ensures { StepPromise state bytes.now result.answer result.state }
 {
-    let mut sets = state.sets;
-    let mut conflicts = state.conflicts;
-    let mut seats = state.seats;
-    let taken = take(state.roles, &mut sets, &mut conflicts, &mut seats, bytes);
-    let answer = taken.answer;
-    let next = State {
-        roles: taken.roles,
-        sets,
-        conflicts,
-        seats,
-    };
-    Stepped {
-        answer,
-        state: next,
-    }
+    let mut state = state;
+    let answer = state.take(bytes);
+    Stepped { answer, state }
 }

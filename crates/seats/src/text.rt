@@ -8,22 +8,23 @@ ghost use Rattle.seats.specs.Written.{Written};
 
 use crate::Answer;
 use crate::answers::{number_of, place_of};
-use crate::writing::{digit_count, put_byte, put_digits, unplaced};
-use graph::Refusal;
+use crate::writing::{digit_count, put_digits, unplaced};
+use graph::{Reason, Refusal};
 
 // How many bytes the longest line has.
 pub const LINE: usize = 29;
 
-// A space and a number, twice, and a line feed at place i of the buffer; the next place.
-fn tail(buffer: &mut [u8], i: usize, x: u64, y: u64) -> usize
-    requires { i + length (digits x) + length (digits y) + 3 ≤ length buffer.old }
-    ensures { Written buffer.old i (tail_of x y) buffer.new result }
+// A space and a number, twice, and a line feed at the buffer's front; gives how many bytes they are.
+fn tail(buffer: &mut [u8], x: u64, y: u64) -> usize
+    requires { length (digits x) + length (digits y) + 3 ≤ length buffer.old }
+    ensures { Written buffer.old 0 (tail_of x y) buffer.new result }
 {
-    let a = put_byte(buffer, i, b' ');
-    let b = put_digits(buffer, a, x);
-    let c = put_byte(buffer, b, b' ');
-    let d = put_digits(buffer, c, y);
-    put_byte(buffer, d, b'\n')
+    buffer[0] = b' ';
+    let space = 1 + put_digits(&mut buffer[1..], x);
+    buffer[space] = b' ';
+    let end = space + 1 + put_digits(&mut buffer[space + 1..], y);
+    buffer[end] = b'\n';
+    end + 1
 }
 
 // How many bytes the line of an index and two numbers has.
@@ -50,8 +51,8 @@ pub fn put_line(buffer: &mut [u8], index: u64, answer: Answer) -> usize
     if !has_room(buffer.len(), index, n, p) {
         return line_length(index, n, p);
     }
-    let j = put_digits(buffer, 0, index);
-    tail(buffer, j, n, p)
+    let j = put_digits(buffer, index);
+    j + tail(&mut buffer[j..], n, p)
 }
 
 // The last line at the front of the buffer, or refusal 9 where the buffer is shorter.
@@ -59,10 +60,8 @@ pub fn write_end(buffer: &mut [u8], count: u64, edges: u64) -> Result<usize, Ref
     ensures { (read_filled result, buffer.new) ≡ fill 9 (end_line count edges) buffer.old }
 {
     if buffer.len() < digit_count(count) + digit_count(edges) + 6 {
-        return Err(unplaced(9));
+        return Err(unplaced(Reason::BufferTooShort));
     }
-    let a = put_byte(buffer, 0, b'e');
-    let b = put_byte(buffer, a, b'n');
-    let c = put_byte(buffer, b, b'd');
-    Ok(tail(buffer, c, count, edges))
+    buffer[..3].copy_from_slice(b"end");
+    Ok(3 + tail(&mut buffer[3..], count, edges))
 }

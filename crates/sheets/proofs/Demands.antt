@@ -15,7 +15,7 @@ use Rattle.lists.proofs.Runs.{chain_runs}
 use Rattle.seats.specs.Tape.{records}
 use Rattle.seats.specs.Demands.{One}
 use Rattle.seats.specs.Reading.{read_answer}
-use Rattle.seats.specs.declared.Answer.{Answer}
+use Rattle.seats.specs.Replies.{Answer}
 use Rattle.seats.specs.Bytes.{written, fill}
 use Rattle.seats.proofs.Written.{unfilled}
 use Rattle.sittings.specs.Records.{step}

@@ -6,7 +6,7 @@ use mathlib.Core.Logic.{◌⊎◌, inl, inr, ◌≢◌}
 use mathlib.Core.Path.{◌≡◌, refl, sym, ap, ◌∙◌, subst}
 use Prim.Native.Nat.{ℕ, zero, suc, ◌+◌, ◌≤◌, ◌<◌}
 use native.Mathlib.Omega.{arith}
-use lib.ListN.{length, drop, length-append}
+use lib.ListN.{length, drop}
 use lib.Dec.{eqb, leb}
 use borrow.Author.Tests.{le-leb, lt-leb, ne_eqb, leb-true, eqb-true, eqb-false}
 use Rattle.lists.specs.Runs.{Each}
@@ -19,7 +19,7 @@ use Rattle.sheets.proofs.ReadResults.{nothing_got, passed, by_test, in_steps, in
 use Rattle.sheets.proofs.Productions.{Fields, no_field, one_field, joined_record, parted_record}
 use Rattle.sheets.proofs.DigitFields.{no_digits, plain-field, quoted_field, either_field}
 use Rattle.sheets.proofs.NumberReading.{field_sound, field_complete}
-use Rattle.sheets.proofs.RowReading.{Ending, ended_sound, ended_complete, ending_digit, ending_comma, ending_length, fields-digit, number_length}
+use Rattle.sheets.proofs.RowReading.{Ending, ended_sound, ended_complete, ending_digit, ending_comma, fields-digit}
 
 -- ---- ascending from a number on
 unfoldable Rising : ℕ → List ℕ → Type 0
@@ -203,24 +203,3 @@ heading_complete (c ∷ cs) {l = l} g h e =
     let r = rising (c ∷ cs) g.ascending in
     let n = rising_length 0 (c ∷ cs) g.columns_below r (omega arith) in
     rw (p.split, append_assoc p.first p.behind l, opened_complete (p.behind ++ l) p.field (fields-comma l p.fields), columns_complete privilege_count 0 (c ∷ cs) l p.fields g.columns_below r (omega arith) (ending_comma e) (ending_digit e), ne_eqb (suc (length cs)) 0 (λ z. omega arith), ended_complete e)
-
--- A heading takes two bytes at least.
-heading-length : (cs : List ℕ) {w : List ℕ} → cs ≢ [] → Record (heading_fields cs) w → 2 ≤ length w
-heading-length [] z h = absurd (z refl)
-heading-length (c ∷ cs) z h =
-    let p = parted_record [] (map digits (c ∷ cs)) h in
-    let b = behind p.fields in
-    let d = ap length p.split in
-    omega (arith, length-append p.first p.behind)
-  where
-    behind : {v : List ℕ} → Fields (map digits (c ∷ cs)) v → 2 ≤ length v
-    behind (one_field {w = w} {t = t} f g) = let a = number_length c f in omega (arith, length-append w t)
-
-pub heading_shorter : (l : List ℕ) {cs t : List ℕ} → heading l ≡ got cs t → length t + 2 ≤ length l
-heading_shorter l {cs} e =
-    let f = heading_sound l e in
-    let a = heading-length cs f.good.some_column f.is_record in
-    let b = length-append f.word f.end in
-    let c = ap length f.split in
-    let d = ending_length f.ending in
-    omega arith

@@ -6,7 +6,7 @@ use Rattle.seats.specs.Records.{record_length, well_formed, decode}
 use Rattle.seats.specs.Tape.{records}
 use Rattle.seats.specs.Demands.{One}
 use Rattle.seats.specs.Reading.{read_answer}
-use Rattle.seats.specs.declared.Answer.{Answer}
+use Rattle.seats.specs.Replies.{Answer}
 use Rattle.sittings.specs.Calls.{call, perform}
 use Rattle.sittings.specs.Promises.{StepPromise, KeeperStart, KeeperTheorem}
 use Rattle.sittings.specs.Reading.{read_sitting}

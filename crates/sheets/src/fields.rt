@@ -24,11 +24,10 @@ fn longer(text: &[u8], limit: u8, first: u8) -> Parsed<'_, u8>
     let mut n = first;
     let mut left = text;
     while let Some((d, behind)) = digit(left) {
-        let more = 10 * u16::from(n) + u16::from(d);
-        if u16::from(limit) <= more {
+        n = n.checked_mul(10)?.checked_add(d)?;
+        if limit <= n {
             return None;
         }
-        n = more as u8;
         left = behind;
     }
     Some((n, left))
@@ -48,7 +47,7 @@ fn plain(text: &[u8], limit: u8) -> Parsed<'_, u8>
     longer(behind, limit, first)
 }
 
-// The digit 0 or 1.
+// The digit 0 or 1. Apart from `plain`, since one function for both would have to be told how many digits it may read.
 fn binary(text: &[u8]) -> Parsed<'_, u8>
     ensures { read_number result ≡ binary text.now }
 {

@@ -8,7 +8,8 @@ ghost use Rattle.sheets.specs.Working.{read_columns, column_set, read_marks, rea
 
 use crate::columns::Columns;
 use crate::fields::{Parsed, ended, field, further, opened};
-use graph::{Privilege, PrivilegeSet, Role, privileges};
+use graph::{Privilege, PrivilegeSet, Role};
+use sets::Set;
 
 // How many roles and privileges there are.
 const ROLES: u8 = 64;
@@ -23,6 +24,7 @@ pub(crate) struct Row {
 }
 
 // The columns at a text's front, strictly ascending, each behind a comma.
+// They stand in an array up to a count, since a vector would need a heap.
 fn read_columns(text: &[u8]) -> Parsed<'_, Columns>
     ensures { read_columns result ≡ columns privilege_count 0 text.now }
 {
@@ -59,7 +61,7 @@ fn with_mark(set: PrivilegeSet, mark: u8, column: Privilege) -> PrivilegeSet
     ensures { read_set result ≡ union (read_set set) (column_set column.0 (eqb mark 1)) }
 {
     if mark == 1 {
-        privileges::union(set, privileges::single(column))
+        set.union(PrivilegeSet::single(column))
     } else {
         set
     }
@@ -69,7 +71,7 @@ fn with_mark(set: PrivilegeSet, mark: u8, column: Privilege) -> PrivilegeSet
 fn read_marks<'a>(text: &'a [u8], columns: &[u8]) -> Parsed<'a, PrivilegeSet>
     ensures { read_marks result ≡ added columns.now empty (marks (length columns.now) text.now) }
 {
-    let mut set = privileges::empty();
+    let mut set = PrivilegeSet::empty();
     let mut left = text;
     for column in columns {
         let (mark, behind) = further(left)?;

@@ -10,6 +10,7 @@ use crate::lines::read_row;
 use seats::records::{RECORD, write_add_by_privileges};
 
 // How many rows a text behind a heading has; or its first bad one.
+// The rows are counted by hand, since the count is the answer and each row says where the next one starts.
 pub(crate) fn count_rows(text: &[u8], columns: &[u8]) -> Result<usize, ImportError>
     ensures { result ≡ counted (rows (length columns.now) text.now) }
 {

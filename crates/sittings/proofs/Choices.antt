@@ -10,20 +10,20 @@ use lib.Dec.{ltb}
 use lib.ListN.{set}
 use Rattle.sets.specs.Sets.{single, union, when}
 use Rattle.graph.specs.Tables.{at, put}
-use Rattle.graph.specs.Graph.{Graph, role_count, ordinary, present, effective}
-use Rattle.graph.specs.Drawing.{below}
+use Rattle.graph.specs.Graph.{Graph, role_count}
 use Rattle.graph.specs.Refusing.{Check, refuse, passed, verdict, at_or_below, Passes}
 use Rattle.graph.specs.Refusing as refusing
 use Rattle.graph.specs.Searching.{Found, lowest_found}
 use Rattle.graph.specs.Reading.{read_verdict}
 use Rattle.graph.specs.declared.Refusal.{Refusal}
-use Rattle.graph.specs.declared.Verdict.TheVariants.{the_data, Passed, Refused}
+use Rattle.std.specs.Prelude.{Result, Ok, Err}
 use Rattle.graph.proofs.Refusals.{passed_passes, number_lt}
 use Rattle.graph.proofs.Judging.{refused_first, passed_first}
+use Rattle.seats.specs.Seats.{State}
 use Rattle.seats.specs.Calls.{refused, seat_role_checks}
-use Rattle.seats.specs.Reading.{state_of}
+use Rattle.seats.specs.Reading.{read_refusal}
 use Rattle.seats.proofs.JudgedCalls.{refused_call, passed_call}
-use Rattle.sittings.specs.Sittings.{Sitting, excluded, is_active, reaches, covered, in_use, together, clashing}
+use Rattle.sittings.specs.Sittings.{Sitting, excluded, is_active, covered, clashing}
 use Rattle.sittings.specs.Calls.{Call, exclude, activate, deactivate, pair_together, role_pair_checks, checks, after, reply, perform}
 use Rattle.sittings.specs.Reading.{sitting_of}
 use Rattle.sittings.specs.Working.{joined_at}
@@ -36,15 +36,15 @@ pub record Parts (z : Sitting) (c : Call) : Type 0 where
   pub late : List Check
   pub split : checks z c (after z c) ≡ named ++ late
 
-module _ {z : Sitting} {c : Call} (p : Parts z c) {v : the_data} (e : read_verdict v ≡ verdict p.named) where
+module _ {z : Sitting} {c : Call} (p : Parts z c) {v : Result (Unit {0}) Refusal} (e : read_verdict v ≡ verdict p.named) where
   -- What the first ones refuse is refused.
-  pub first_refuses : {r : Refusal} → v ≡ Refused r → (refused r.number r.place, z) ≡ perform z c
+  pub first_refuses : {r : Refusal} → v ≡ Err r → (read_refusal r, z) ≡ perform z c
   unfolding read_verdict
   first_refuses d =
-      sym (refused_call checks after reply perform performs z c (ap verdict p.split ∙ sym (refused_first p.named p.late e d) ∙ ap read_verdict d))
+      sym (refused_call checks after reply perform performs z c (ap verdict p.split ∙ sym (refused_first p.named p.late e d)))
 
   -- Where they pass, those behind them decide.
-  module _ (d : v ≡ Passed) where
+  module _ (d : v ≡ Ok tt) where
     pub later_refuses : {n q : ℕ} → verdict p.late ≡ refusing.refused n q → (refused n q, z) ≡ perform z c
     later_refuses f =
         sym (refused_call checks after reply perform performs z c (ap verdict p.split ∙ passed_first p.named p.late e d ∙ f))
@@ -98,13 +98,9 @@ pair_numbers g a b e =
     omega arith
 
 -- ---- what is offered and stored
--- What a search for a pair that is together finds does not depend on the conflicts and the seats' roles.
-pub clash_found : (roles : ℕ) (sets C W : List ℕ) {P Q A B : List ℕ} {x : Found}
-    → x ≡ lowest_found role_count (clashing (sitting_of (state_of roles sets [] []) P A)) → P ≡ Q → A ≡ B
-    → x ≡ lowest_found role_count (clashing (sitting_of (state_of roles sets C W) Q B))
-unfolding clashing together in_use reaches at_or_below below present ordinary effective
-clash_found roles sets C W e p a =
-    e ∙ ap₂ (λ (P A : List ℕ). lowest_found role_count (clashing (sitting_of (state_of roles sets C W) P A))) p a
+-- What is found among the pairs and the active roles with what is offered.
+pub clash_found : (h : State) {P Q A B : List ℕ} {x : Found} → x ≡ lowest_found role_count (clashing (sitting_of h P A)) → P ≡ Q → A ≡ B → x ≡ lowest_found role_count (clashing (sitting_of h Q B))
+clash_found h e p a = e ∙ ap₂ (λ (P A : List ℕ). lowest_found role_count (clashing (sitting_of h P A))) p a
 
 -- Member b put into entry a, as the code has the two numbers.
 module _ (l : List ℕ) {a b : ℕ} (h : b < role_count) {n q : ℕ} (p : n ≡ a) (d : q ≡ b) where

@@ -1,42 +1,46 @@
 -- The three demands on sittings hold.
 -- Assumes nothing.
 use mathlib.Core.Path.{◌≡◌, refl, sym, ap, ◌∙◌, subst}
-use mathlib.Core.Bool.{false}
+use mathlib.Core.Bool.{Bool, false}
 use mathlib.Core.Logic.{inl, inr}
 use mathlib.Core.List.{List, ◌++◌}
 use Prim.Native.Nat.{ℕ, ◌≤◌}
 use lib.ListN.{length}
+use Rattle.std.specs.Prelude.{Ok, Err}
+use Rattle.lists.specs.Settling as settling
 use Rattle.lists.proofs.Runs.{chain_unrefused}
 use Rattle.graph.specs.Drawing.{redraw}
 use Rattle.graph.specs.Editing.{Change, edit}
-use Rattle.graph.specs.Refusing.{input_checks, state_checks, Passes, First}
+use Rattle.graph.specs.Refusing.{Verdict, passed, refused, verdict, input_checks, state_checks, Passes, First}
+use Rattle.graph.specs.declared.Reason.TheVariants as reasons
 use Rattle.graph.proofs.Closing.{Laid}
 use Rattle.graph.proofs.Edits.{laid}
 use Rattle.graph.proofs.Refusals.{parts, first_in_order}
 use Rattle.seats.specs.Bytes.{Bytes}
-use Rattle.seats.specs.Seats.{State, fresh}
-use Rattle.seats.specs.Calls.{change, accepted, is_refusal}
+use Rattle.seats.specs.Seats.{State}
+use Rattle.seats.specs.Calls.{change, accepted, answered, judged, settle, is_refusal}
 use Rattle.seats.specs.Calls as base
 use Rattle.seats.specs.Images.{least_image, far_at, restored}
 use Rattle.seats.specs.Demands.{One, refuses, contents_in, load_order, load_checks, ChangedBy}
 use Rattle.seats.specs.Demands as state-demands
-use Rattle.seats.specs.Reading.{read_answer, read_filled}
-use Rattle.seats.specs.declared.Answer.{Answer}
+use Rattle.seats.specs.Reading.{read_answer, read_asked, read_filled}
+use Rattle.seats.specs.Replies.{Answer}
 use Rattle.seats.proofs.CallInvariant as base-keeping
-use Rattle.seats.proofs.FirstChecks.{first_refuses, Settles, settles}
+use Rattle.seats.proofs.FirstChecks.{first_refuses, refuses_first, Settles, settles}
 use Rattle.seats.proofs.LoadVerdict.{load_checks_in_order}
 use Rattle.seats.proofs.ImageAlone.{load_alone}
+use Rattle.seats.proofs.OneOutcome.{one, Reasoned, call_reasoned, load_reasoned, Told, told}
 use Rattle.seats.proofs.OneOutcome as base-outcomes
 use Rattle.seats.proofs.SaveOutcomes.{front_loads, front_same}
 use Rattle.seats.proofs.Demands.{changed_by, says, closes}
-use Rattle.sittings.specs.Sittings.{begun}
+use Rattle.sittings.specs.Sittings.{begun, may_use_active}
 use Rattle.sittings.specs.Sittings as sittings
 use Rattle.sittings.specs.Calls.{Call, call, checks, after, ask_active}
 use Rattle.sittings.specs.Records.{well_formed, decode, step}
 use Rattle.sittings.specs.Images.{settle_load, load_over}
 use Rattle.sittings.specs.Invariants.{Invariant}
 use Rattle.sittings.specs.Promises.{StepPromise, LoadPromise}
-use Rattle.sittings.specs.Demands.{read_outcome, Reached, Says, DemandOne, DemandTwo, DemandThreeWithShorter, Demands}
+use Rattle.sittings.specs.Demands.{read_outcome, question_checks, Reached, Says, DemandOne, DemandTwo, DemandThreeWithShorter, Demands}
 use Rattle.sittings.specs.Reading.{sitting_of, read_sitting}
 use Rattle.sittings.specs.declared.Sitting.{Sitting}
 use Rattle.sittings.proofs.Settling.{refused_leaves}
@@ -54,22 +58,36 @@ by_part : {x y : base.Answer × sittings.Sitting} → x ≡ y → (x.0 ≡ y.0) 
 by_part e = (ap (λ (k : base.Answer × sittings.Sitting). k.0) e, ap (λ (k : base.Answer × sittings.Sitting). k.1) e)
 
 -- ---- every promise can be kept, and whatever keeps it reads alike
-one_answer : (a : base.Answer) → One read_answer (λ x. read_answer x ≡ a)
-one_answer a =
-    let x = base-outcomes.one_outcome (a, fresh) in
-    let e = ap (λ (k : base.Answer × State). k.0) x.kept in
-    record { some = x.some.0; kept = e; alike = λ b q. q ∙ sym e }
+one_outcome : (y : base.Answer × sittings.Sitting) → Told y.0 → One read_outcome (λ x. read_outcome x ≡ y)
+one_outcome (a, z) t =
+    let x = base-outcomes.one_outcome (a, z.state) t in
+    one read_outcome (x.some.0, record { state = x.some.1; pairs = z.pairs; active = z.active })
+    (ap {B = base.Answer × sittings.Sitting} (λ (k : base.Answer × State). (k.0, sitting_of k.1 z.pairs z.active)) x.kept)
 
-one_outcome : (y : base.Answer × sittings.Sitting) → One read_outcome (λ x. read_outcome x ≡ y)
-one_outcome (a, z) =
-    let x = base-outcomes.one_outcome (a, z.state) in
-    let s = x.some.1 in
-    let e = ap {B = base.Answer × sittings.Sitting} (λ (k : base.Answer × State). (k.0, sitting_of k.1 z.pairs z.active)) x.kept in
-    record {
-      some = (x.some.0, record { roles = s.roles; sets = s.sets; conflicts = s.conflicts; seats = s.seats; pairs = z.pairs; active = z.active });
-      kept = e;
-      alike = λ b q. q ∙ sym e;
-    }
+-- What the question is answered, by its verdict.
+one_asked : (z : sittings.Sitting) (b : Bool) (v : Verdict) → ((n p : ℕ) → v ≡ refused n p → Reasoned n) → One read_asked (λ x. read_asked x ≡ (settle v (answered b) z z).0)
+unfolding settle judged settling.settle read_asked
+one_asked z b passed h = one read_asked (Ok b) refl
+one_asked z b (refused n p) h =
+    let t = h n p refl in
+    one read_asked (Err (record { reason = t.reason; place = p })) (ap (λ (m : ℕ). base.refused m p) t.number)
+
+-- Each number that refuses a record, a load or the question is a reason's.
+step_told : (z : sittings.Sitting) (l : List ℕ) → Told (step z l).0
+step_told z l = told (step z l).0 (λ n p r. call_reasoned n (record_refused z (step z l) l refl n p r).0)
+
+load_told : (z : sittings.Sitting) (l : List ℕ) → Told (load_over z l).0
+load_told z l = told (load_over z l).0 (λ n p r. load_reasoned n (load_number z l n p r).0)
+
+question_number : (i k n p : ℕ) → First (question_checks i k) n p → n ≡ 2
+unfolding First
+question_number i k n p f = elim f [
+  | inl (_, q, _) ↦ sym q
+  | inr (_, f) ↦ elim f [ inl (_, q, _) ↦ sym q | inr (_, x) ↦ absurd x ]
+]
+
+question_told : (i k n p : ℕ) → verdict (question_checks i k) ≡ refused n p → Reasoned n
+question_told i k n p e = record { reason = reasons.UnknownNumber; number = sym (question_number i k n p (refuses_first (question_checks i k) n p e)) }
 
 -- ---- loads and the question
 load_settled : (z y : Sitting) (l : List ℕ) (a : Answer) → LoadPromise z l a y → Settles (load_checks l) accepted (read_sitting z) (begun (restored (contents_in l))) (read_outcome (a, y))
@@ -91,21 +109,18 @@ over_alone z before l k d = ap (settle_load z) (load_alone before l k d)
 
 -- Demand 1.
 pub demand_one : DemandOne
-unfolding First
+unfolding ask_active
 demand_one = record {
-  call_answered = λ z l. one_outcome (step (read_sitting z) l);
-  load_answered = λ z l. one_outcome (load_over (read_sitting z) l);
-  question_answered = λ z i p. one_answer (ask_active z i p);
+  call_answered = λ z l. one_outcome (step (read_sitting z) l) (step_told (read_sitting z) l);
+  load_answered = λ z l. one_outcome (load_over (read_sitting z) l) (load_told (read_sitting z) l);
+  question_answered = λ z i p. one_asked z (may_use_active z i p) (verdict (question_checks i p)) (question_told i p);
   part_answered = part_answered;
   tape_answered = tape_answered;
   call_refused = λ z y l a n p e r. record_refused (read_sitting z) (read_outcome (a, y)) l e n p r;
   load_refused = λ z y l a n p e r.
       let (x, w) = load_number (read_sitting z) l n p (sym (by_part e).0 ∙ r) in
       (x, w, (load_settled z y l a e).refused_leaves n p r);
-  question_refused = λ z i k a n p e r. elim (((question_settles z i k (read_answer a) e).refused_iff n p).0 r) [
-    | inl (_, q, _) ↦ sym q
-    | inr (_, f) ↦ elim f [ inl (_, q, _) ↦ sym q | inr (_, x) ↦ absurd x ]
-  ];
+  question_refused = λ z i k a n p e r. question_number i k n p (((question_settles z i k (read_asked a) e).refused_iff n p).0 r);
   part_refused = part_refused;
   part_uncounted = part_uncounted;
 }
@@ -166,8 +181,8 @@ demand_two = record {
         λ x. (by_part (w.accepted_gives (w.accepted_iff.1 x))).0,
       );
   load_accepted = λ z y l a e r. (by_part ((load_settled z y l a e).accepted_gives (no_refusal a r))).1;
-  question_refused_iff = λ z i k a n p e. (question_settles z i k (read_answer a) e).refused_iff n p;
-  question_accepted = λ z i k a e t. let w = question_settles z i k (read_answer a) e in (by_part (w.accepted_gives (w.accepted_iff.1 t))).0;
+  question_refused_iff = λ z i k a n p e. (question_settles z i k (read_asked a) e).refused_iff n p;
+  question_accepted = λ z i k a e t. let w = question_settles z i k (read_asked a) e in (by_part (w.accepted_gives (w.accepted_iff.1 t))).0;
   part_refused_iff = part_refused_iff;
   part_uncounted_iff = part_uncounted_iff;
   part_accepted = part_accepted;

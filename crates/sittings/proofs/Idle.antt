@@ -12,7 +12,7 @@ use Rattle.graph.specs.Graph.{role_count}
 use Rattle.graph.specs.Editing.{Change, add_by_place, add_by_privileges, remove_role, grant, withdraw, add_edge, remove_edge}
 use Rattle.graph.specs.Refusing.{passed, verdict}
 use Rattle.graph.specs.Reading.{read_found}
-use Rattle.graph.specs.declared.Found.TheVariants.{Nothing}
+use Rattle.std.specs.Prelude.{None}
 use Rattle.graph.proofs.Tables.{length-table, at-table, table_ext}
 use Rattle.graph.proofs.Judging.{moves_on, ends, place_none}
 use Rattle.seats.specs.Seats.{State, seat_count}
@@ -63,4 +63,4 @@ idle_pairs (remove_edge a b) w t = refl
 -- 35 refuses nothing where there is no pair.
 pub idle_passes : (z : Sitting) → T (all_empty z.pairs) → verdict (pair_together z ∷ []) ≡ passed
 unfolding read_found
-idle_passes z t = moves_on _ _ (place_none _ _ {x = Nothing} (no_clash z t) refl) ∙ sym ends
+idle_passes z t = moves_on _ _ (place_none _ _ {x = None} (no_clash z t) refl) ∙ sym ends

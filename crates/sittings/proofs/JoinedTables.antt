@@ -1,20 +1,21 @@
--- Tables with more members in an entry, and tables whose entries are all empty.
+-- Tables with more members in an entry, tests of some entry, and tables whose entries are all empty.
 -- Assumes nothing.
 use mathlib.Core.Path.{◌≡◌, refl, sym, ap, ap₂, ◌∙◌, subst}
-use mathlib.Core.Bool.{◌&&◌, and-true}
+use mathlib.Core.Bool.{Bool, true, false, ◌&&◌, ◌||◌, and-true}
 use mathlib.Core.Logic.{◌≢◌}
 use mathlib.Core.List.{List, [], ◌∷◌}
-use Prim.Native.Nat.{ℕ, zero, suc, ◌+◌, ◌<◌, ◌≤◌}
-use native.Mathlib.Numerals.{add-one}
+use Prim.Native.Nat.{ℕ, zero, suc}
 use native.Mathlib.Omega.{arith}
 use native.Mathlib.Decide.{ℕ_discrete, dec_lt}
 use borrow.Author.Tests.{lt-ltb, le-ltb, eq-eqb, ne_eqb}
 use lib.Dec.{T, eqb, ltb}
-use lib.ListN.{length, drop, get_or, set, length-set, drop_of_length-le}
-use lib.Seq.{get_or-set_same, get_or-set_other, set_out, drop-cons}
+use lib.ListN.{length, set, length-set}
+use lib.Seq.{get_or-set_same, get_or-set_other, set_out}
+use Rattle.std.specs.List.{list_any, fold}
+use Rattle.sets.specs.Counting.{any}
 use Rattle.sets.specs.Sets.{member, union, when}
-use Rattle.sets.proofs.Tests.{both, join, same_test, equal_test, test_equal, and_regroup}
-use Rattle.sets.proofs.Laws.{equal_members, union-empty}
+use Rattle.sets.proofs.Tests.{both, join, same_test, test_equal, equal_test, and_regroup}
+use Rattle.sets.proofs.Laws.{union-empty, equal_members}
 use Rattle.sets.proofs.Members.{in_empty, union_left, union_right}
 use Rattle.graph.specs.Tables.{at}
 use Rattle.graph.proofs.Tables.{table_ext}
@@ -24,7 +25,7 @@ use Rattle.sittings.specs.Working.{joined_at}
 
 -- ---- more members in an entry
 -- An entry of the table, with what is joined to it where the table has entry n.
-at-joined : (l : List ℕ) (n more i : ℕ) → at (joined_at l n more) i ≡ union (at l i) (when (eqb i n) (when (ltb n (length l)) more))
+pub at-joined : (l : List ℕ) (n more i : ℕ) → at (joined_at l n more) i ≡ union (at l i) (when (eqb i n) (when (ltb n (length l)) more))
 unfolding joined_at at when
 at-joined l n more i = elim (ℕ_discrete i n) [ yes e ↦ rw e here | no d ↦ other d ]
   where
@@ -53,10 +54,29 @@ joined_none l n =
     table_ext (length l) (joined_at l n 0) l (length-set l n _) refl
     (λ i _. at-joined l n 0 i ∙ ap (union (at l i)) (ap (when (eqb i n)) (when-empty _) ∙ when-empty _) ∙ union-empty (at l i))
 
+-- ---- some entry
+-- Some number below n + 1 passes: 0 does, or one above it.
+any_front : (n : ℕ) (h : ℕ → Bool) → any (suc n) h ≡ h 0 || any n (λ i. h (suc i))
+unfolding any
+any_front zero h = refl
+any_front (suc n) h = ap (λ (b : Bool). h (suc n) || b) (any_front n h) ∙ turned (h (suc n)) (h 0) (any n (λ i. h (suc i)))
+  where
+    turned : (x y z : Bool) → x || (y || z) ≡ y || (x || z)
+    turned true true z = refl
+    turned true false z = refl
+    turned false true z = refl
+    turned false false z = refl
+
+-- Some entry of a table passes a test.
+pub any_entry : (f : ℕ → Bool) (l : List ℕ) → list_any f l ≡ any (length l) (λ i. f (at l i))
+unfolding any at
+any_entry f [] = refl
+any_entry f (x ∷ l) = ap (λ (b : Bool). f x || b) (any_entry f l) ∙ sym (any_front (length l) (λ i. f (at (x ∷ l) i)))
+
 -- ---- empty entries
--- A union is empty where both sets are.
+-- A union is empty where both its sets are.
 union_none : (s t : ℕ) → eqb (union s t) 0 ≡ eqb s 0 && eqb t 0
-union_none s t = same_test _ _ there back
+union_none s t = same_test (eqb (union s t) 0) (eqb s 0 && eqb t 0) there back
   where
     none : (u : ℕ) → union s t ≡ 0 → ((p : ℕ) → T (member p u) → T (member p (union s t))) → u ≡ 0
     none u e f = equal_members u 0 (λ p. same_test _ _ (λ m. subst (λ (x : ℕ). T (member p x)) e (f p m)) (λ m. absurd (in_empty p m)))
@@ -71,30 +91,11 @@ union_none s t = same_test _ _ there back
         let (a, b) = both (eqb s 0) (eqb t 0) x in
         equal_test (ap₂ union (test_equal a) (test_equal b) ∙ union-empty 0)
 
--- What the union of the first n entries tells: all entries are empty where it is and those that are left are.
-pub record United (l : List ℕ) (n found : ℕ) : Type 0 where
-  pub within : n ≤ length l
-  pub left : eqb found 0 && all_empty (drop n l) ≡ all_empty l
-
-pub united_none : (l : List ℕ) → United l 0 0
-united_none l = record { within = omega arith; left = refl }
-
--- One turn joins the next entry.
-pub united_next : {l : List ℕ} {n found : ℕ} → United l n found → n < length l → {s : ℕ} → s ≡ union found (get_or l n 0) → United l (n + 1) s
+-- The union of all entries, joined to a set, is empty where the set and all of them are.
+pub each_empty : (l : List ℕ) (s : ℕ) → eqb (fold union s l) 0 ≡ eqb s 0 && all_empty l
 unfolding all_empty
-united_next {l} {n} {found} u h {s} e = record {
-  within = omega arith;
-  left =
-      rw (e, union_none found (get_or l n 0), add-one n)
-      (sym (and_regroup (eqb found 0) (eqb (get_or l n 0) 0) (all_empty (drop (suc n) l)))
-      ∙ ap (λ (m : List ℕ). eqb found 0 && all_empty m) (sym (drop-cons l n 0 h))
-      ∙ u.left);
-}
-
-pub united_done : {l : List ℕ} {n found : ℕ} → United l n found → length l ≤ n → eqb found 0 ≡ all_empty l
-unfolding all_empty
-united_done {l} {n} {found} u h =
-    sym (ap (λ (m : List ℕ). eqb found 0 && all_empty m) (drop_of_length-le l h) ∙ and-true (eqb found 0)) ∙ u.left
+each_empty [] s = sym (and-true (eqb s 0))
+each_empty (x ∷ l) s = each_empty l (union s x) ∙ ap (λ (b : Bool). b && all_empty l) (union_none s x) ∙ sym (and_regroup (eqb s 0) (eqb x 0) (all_empty l))
 
 -- A table that is empty throughout has nothing in any entry.
 pub empty_entries : (l : List ℕ) → T (all_empty l) → (i : ℕ) → at l i ≡ 0

@@ -19,7 +19,6 @@ pub mod Demands
 -- ---- tables and loops over them
 pub mod JoinedTables
 pub mod FilledTables
-pub mod Scans
 -- ---- what roles reach, and what excludes
 pub mod Reached
 pub mod ReachedPrivileges

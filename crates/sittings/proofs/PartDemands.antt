@@ -1,6 +1,6 @@
 -- What the demands say of tapes and their parts: each record of a tape is answered; and a part is left uncounted, is refused for its lines, or has its lines written.
 -- Assumes nothing.
-use mathlib.Core.Path.{◌≡◌, sym, ap, ◌∙◌}
+use mathlib.Core.Path.{◌≡◌, refl, sym, ap, ◌∙◌, subst}
 use mathlib.Core.Logic.{◌↔◌}
 use mathlib.Core.List.{List, ◌++◌}
 use Prim.Native.Nat.{ℕ, ◌+◌, ◌^◌, ◌<◌, ◌≤◌}
@@ -12,7 +12,8 @@ use Rattle.seats.specs.Bytes.{Filled, written, too_short}
 use Rattle.seats.specs.Tape.{records, PartAnswer, fills, uncounted, feed, joined}
 use Rattle.seats.specs.Demands.{One}
 use Rattle.seats.specs.Reading.{read_part}
-use Rattle.seats.proofs.OneOutcome.{one, write_part, part_written}
+use Rattle.seats.specs.declared.State.{State}
+use Rattle.seats.proofs.OneOutcome.{ToldFilled, room_reasoned, one, ToldPart, write_part, part_written}
 use Rattle.seats.proofs.PartOutcomes.{Feeds, not_counted, too_long, fed_whole, feeds, records-joined}
 use Rattle.seats.proofs.SaveOutcomes.{no_written, same_short}
 use Rattle.sittings.specs.Sittings as sittings
@@ -30,16 +31,27 @@ Result = (PartAnswer × List ℕ) × (ℕ × sittings.Sitting)
 
 -- ---- everything is answered
 -- What feeding a part gives, as the code holds it.
-write_fed : Result → Fed × List ℕ
-write_fed ((a, left), (n, z)) =
+write_fed : (y : Result) → ToldPart y.0.0 → Fed × List ℕ
+write_fed ((a, left), (n, z)) t =
     let g = z.state.graph in
-    let y : Sitting = record { roles = g.roles; sets = g.sets; conflicts = g.conflicts; seats = z.state.seats; pairs = z.pairs; active = z.active } in
-    (record { answer = write_part a; count = n; sitting = y }, left)
+    let s : State = record { roles = g.roles; sets = g.sets; conflicts = g.conflicts; seats = z.state.seats } in
+    (record { answer = write_part a t; count = n; sitting = record { state = s; pairs = z.pairs; active = z.active } }, left)
+
+-- A part that is refused is refused with 9.
+fed_told : {z : sittings.Sitting} {count : ℕ} {part buffer : List ℕ} {y : Result} → Feeds step z count part buffer y → ToldPart y.0.0
+unfolding ToldPart ToldFilled
+fed_told f = elim f [
+  | not_counted _ q ↦ subst (λ (x : Result). ToldPart x.0.0) (sym q) tt
+  | too_long _ _ q ↦ subst (λ (x : Result). ToldPart x.0.0) (sym q) (room_reasoned 9 refl)
+  | fed_whole _ _ q ↦ subst (λ (x : Result). ToldPart x.0.0) (sym q) tt
+]
 
 pub part_answered : (z : Sitting) (count : ℕ) (part buffer : List ℕ) → One read_part_left (λ x. FeedPromise z count part buffer x.0 x.1)
 unfolding write_fed sets_in
 part_answered z count part buffer =
-    one read_part_left write_fed (λ y. ap (λ (a : PartAnswer). ((a, y.0.1), y.1)) (part_written y.0.0)) (feed step (read_sitting z) count part buffer)
+    let y = feed step (read_sitting z) count part buffer in
+    let t = fed_told (feeds step (read_sitting z) count part buffer y refl) in
+    one read_part_left (write_fed y t) (ap (λ (a : PartAnswer). ((a, y.0.1), y.1)) (part_written y.0.0 t))
 
 pub tape_answered : (z : sittings.Sitting) (tape : List ℕ) → (joined (records tape) ≡ tape) × (length (answers z (records tape)) ≡ length (records tape))
 unfolding answers

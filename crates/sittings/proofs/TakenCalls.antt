@@ -1,7 +1,7 @@
 -- What the step of a sitting makes of a call of kinds 1 to 12 by the answer of document 01's keeper: a refusal leaves the sitting; an accepted change is left, unless 35 refuses it; an accepted request is left as it is, with what it switches off.
 -- Assumes nothing.
 use mathlib.Core.Path.{◌≡◌, refl, sym, ap, ap₂, ◌∙◌, subst}
-use mathlib.Core.Bool.{Bool, true, false, cond, ◌&&◌}
+use mathlib.Core.Bool.{Bool, true, false, ◌&&◌}
 use mathlib.Core.List.{List, [], ◌∷◌}
 use Prim.Native.Nat.{ℕ}
 use native.Mathlib.Omega.{arith}
@@ -13,26 +13,26 @@ use Rattle.graph.specs.Graph.{role_count}
 use Rattle.graph.specs.Editing.{Change, add_by_place, add_by_privileges, remove_role, grant, withdraw, add_edge, remove_edge}
 use Rattle.graph.specs.Refusing.{Verdict, passed, verdict}
 use Rattle.graph.specs.Refusing as refusing
-use Rattle.graph.specs.Reading.{read_verdict}
 use Rattle.graph.specs.declared.Refusal.{Refusal}
-use Rattle.graph.specs.declared.Verdict.TheVariants as verdicts
+use Rattle.std.specs.Prelude.{Result, Ok, Err}
 use Rattle.graph.proofs.Tables.{length-table}
 use Rattle.lists.specs.Settling as settling
 use Rattle.seats.specs.Seats.{State, seat_count}
 use Rattle.seats.specs.Calls.{Answer, accepted, answered, refused, judged, settle, is_refusal}
 use Rattle.seats.specs.Calls as base
 use Rattle.seats.specs.Records.{all_empty}
-use Rattle.seats.specs.Reading.{read_answer, read_request}
-use Rattle.seats.specs.declared.Answer.TheVariants as answers
+use Rattle.seats.specs.Reading.{read_answer, read_refusal, read_request}
+use Rattle.seats.specs.Replies as code
+use Rattle.seats.specs.declared.Reply.TheVariants as replies
 use Rattle.seats.specs.declared.Request.TheVariants as requests
 use Rattle.graph.specs.declared.Role.{Role}
 use Rattle.seats.specs.declared.Seat.{Seat}
 use Rattle.seats.proofs.JudgedCalls.{settle_refused, settle_passed}
 use Rattle.seats.proofs.Settling as base-settling
-use Rattle.seats.proofs.Changing.{accepted_taken, other_taken}
 use Rattle.sittings.specs.Sittings.{Sitting, still_active}
 use Rattle.sittings.specs.Calls.{call, pair_together, drawn_checks, without_role, pairs_changed, pairs_after, active_after, perform}
-use Rattle.sittings.specs.Reading.{sitting_of}
+use Rattle.sittings.specs.Reading.{sitting_of, read_followed}
+use Rattle.sittings.specs.declared.Followed.{Followed}
 use Rattle.sittings.specs.Working.{followed}
 use Rattle.sittings.proofs.Beside.{beside}
 use Rattle.sittings.proofs.FilledTables.{table_whole}
@@ -57,55 +57,44 @@ pairs_whole (add_edge a b) P w = table_whole role_count P w
 pairs_whole (remove_edge a b) P w = table_whole role_count P w
 
 module _ (z : Sitting) (c : Change) where
-  -- A change that is not accepted leaves the sitting.
-  pub change_refused : (m : State) (a : answers.the_data) {t : State} → (
-      let h = base.after z.state (base.change c) in
-      (read_answer a, t) ≡ settle (verdict (base.checks z.state (base.change c) h)) accepted m h
-      → (a ≡ answers.Accepted → ⊥) → (read_answer a, z) ≡ perform z (call (base.change c)))
-  unfolding read_answer base.perform base.reply followed is_refusal
-  change_refused m answers.Accepted e o = absurd (o refl)
-  change_refused m (answers.Answered b) e o = absurd (never_answered _ _ _ e)
-  change_refused m (answers.Refused r) e o =
-      sym (beside z (base.change c) ∙ ap (followed z (base.change c)) (sym (other_taken _ _ _ z.state (answers.Refused r) e o)))
+  -- A change that is refused leaves the sitting.
+  pub change_refused : (r : Refusal) → (read_refusal r, z.state) ≡ base.perform z.state (base.change c) → (read_refusal r, z) ≡ perform z (call (base.change c))
+  unfolding followed is_refusal
+  change_refused r e = sym (beside z (base.change c) ∙ ap (followed z (base.change c)) (sym e))
 
   -- A change that is accepted, with the state h.
-  module _ (m h : State) {a : answers.the_data} (e : (
-      let t = base.after z.state (base.change c) in
-      (read_answer a, h) ≡ settle (verdict (base.checks z.state (base.change c) t)) accepted m t)) (d : a ≡ answers.Accepted) where
+  module _ {h : State} (e : (accepted, h) ≡ base.perform z.state (base.change c)) where
     -- What is left where 35 does not refuse it.
-    abbrev left : Sitting
+    abbrev pub left : Sitting
     left = sitting_of h (pairs_changed c z.pairs) (still_active h z.active)
 
     -- Only 35 is left to be judged.
-    judged_after : perform z (call (base.change c)) ≡ settle (verdict (pair_together left ∷ [])) (read_answer a) z left
-    unfolding followed is_refusal drawn_checks pairs_after active_after base.perform base.reply read_answer
-    judged_after =
-        beside z (base.change c)
-        ∙ ap (followed z (base.change c)) (sym (accepted_taken _ m _ z.state e d))
-        ∙ ap (λ (b : Bool). cond b (read_answer a, z) (settle (verdict (pair_together left ∷ [])) (read_answer a) z left)) (ap (λ (x : answers.the_data). is_refusal (read_answer x)) d)
+    judged_after : perform z (call (base.change c)) ≡ settle (verdict (pair_together left ∷ [])) accepted z left
+    unfolding followed is_refusal drawn_checks pairs_after active_after
+    judged_after = beside z (base.change c) ∙ ap (followed z (base.change c)) (sym e)
 
     -- Where there is no pair and nothing active, these stay as they are.
     pub idle_change : all_empty z.pairs && all_empty z.active ≡ true → length z.pairs ≡ role_count → length z.active ≡ seat_count
-        → (read_answer a, sitting_of h z.pairs z.active) ≡ perform z (call (base.change c))
+        → (accepted, sitting_of h z.pairs z.active) ≡ perform z (call (base.change c))
     idle_change i k l =
         let (p, q) = both (all_empty z.pairs) (all_empty z.active) (subst T (sym i) tt) in
         sym (judged_after
-        ∙ ap₂ (λ (P A : List ℕ). settle (verdict (pair_together (sitting_of h P A) ∷ [])) (read_answer a) z (sitting_of h P A)) (idle_pairs c k p) (idle_active h l q)
-        ∙ settle_passed (read_answer a) z _ (idle_passes (sitting_of h z.pairs z.active) p))
+        ∙ ap₂ (λ (P A : List ℕ). settle (verdict (pair_together (sitting_of h P A) ∷ [])) accepted z (sitting_of h P A)) (idle_pairs c k p) (idle_active h l q)
+        ∙ settle_passed accepted z _ (idle_passes (sitting_of h z.pairs z.active) p))
 
-    module _ {v : verdicts.the_data} (f : read_verdict v ≡ verdict (pair_together left ∷ [])) where
+    module _ {v : Result Followed Refusal} (f : read_followed v ≡ verdict (pair_together left ∷ [])) where
       -- 35 refuses it.
-      pub together_change : {r : Refusal} → v ≡ verdicts.Refused r → (refused r.number r.place, z) ≡ perform z (call (base.change c))
-      unfolding read_verdict
-      together_change x = sym (judged_after ∙ settle_refused (read_answer a) z left (sym f ∙ ap read_verdict x))
+      pub together_change : {r : Refusal} → v ≡ Err r → (read_refusal r, z) ≡ perform z (call (base.change c))
+      unfolding read_followed
+      together_change x = sym (judged_after ∙ settle_refused accepted z left (sym f ∙ ap read_followed x))
 
       -- Nothing refuses it, and all roles' pairs and all seats' active roles are stored.
-      pub apart_change : v ≡ verdicts.Passed → {P A : List ℕ} → P ≡ table role_count (at (pairs_changed c z.pairs)) → A ≡ still_active h z.active → length z.pairs ≡ role_count
-          → (read_answer a, sitting_of h P A) ≡ perform z (call (base.change c))
-      unfolding read_verdict
+      pub apart_change : {n : Followed} → v ≡ Ok n → {P A : List ℕ} → P ≡ table role_count (at (pairs_changed c z.pairs)) → A ≡ still_active h z.active → length z.pairs ≡ role_count
+          → (accepted, sitting_of h P A) ≡ perform z (call (base.change c))
+      unfolding read_followed
       apart_change x p q k =
-          ap₂ (λ (P A : List ℕ). (read_answer a, sitting_of h P A)) (p ∙ pairs_whole c _ k) q
-          ∙ sym (judged_after ∙ settle_passed (read_answer a) z left (sym f ∙ ap read_verdict x))
+          ap₂ (λ (P A : List ℕ). (accepted, sitting_of h P A)) (p ∙ pairs_whole c _ k) q
+          ∙ sym (judged_after ∙ settle_passed accepted z left (sym f ∙ ap read_followed x))
 
 -- ---- requests
 -- No request but kind 11 switches anything off.
@@ -132,12 +121,12 @@ module _ (z : Sitting) (r : requests.the_data) where
 
   module _ (h : State) where
     -- An accepted request is left, with what it switches off.
-    pub accepted_request : {a : answers.the_data} → a ≡ answers.Accepted → (read_answer a, h) ≡ base.perform z.state (read_request r) → {A : List ℕ} → A ≡ active_after (read_request r) h z.active
+    pub accepted_request : {a : code.Answer} → a ≡ Ok replies.Accepted → (read_answer a, h) ≡ base.perform z.state (read_request r) → {A : List ℕ} → A ≡ active_after (read_request r) h z.active
         → (read_answer a, sitting_of h z.pairs A) ≡ perform z (call (read_request r))
     unfolding read_answer is_refusal
     accepted_request {a} d e p =
         ap (λ (A : List ℕ). (read_answer a, sitting_of h z.pairs A)) p
-        ∙ sym (beside z (read_request r) ∙ ap (followed z (read_request r)) (sym e) ∙ followed_request h (ap (λ (x : answers.the_data). is_refusal (read_answer x)) d))
+        ∙ sym (beside z (read_request r) ∙ ap (followed z (read_request r)) (sym e) ∙ followed_request h (ap (λ (x : code.Answer). is_refusal (read_answer x)) d))
 
     -- A request that is answered with yes or no switches nothing off.
     answered_keeps : {b : Bool} → (answered b, h) ≡ base.perform z.state (read_request r) → active_after (read_request r) h z.active ≡ z.active
@@ -151,14 +140,24 @@ module _ (z : Sitting) (r : requests.the_data) where
         go (requests.Unassign x y) e = absurd (never_answered _ _ _ e)
         go (requests.Ask x y) e = refl
 
-    -- A request with any other answer leaves the active roles.
-    pub other_request : (a : answers.the_data) → (a ≡ answers.Accepted → ⊥) → (read_answer a, h) ≡ base.perform z.state (read_request r)
-        → (read_answer a, sitting_of h z.pairs z.active) ≡ perform z (call (read_request r))
-    unfolding read_answer is_refusal followed
-    other_request answers.Accepted o e = absurd (o refl)
-    other_request (answers.Answered b) o e =
-        sym (beside z (read_request r) ∙ ap (followed z (read_request r)) (sym e) ∙ followed_request h refl ∙ ap (λ (A : List ℕ). (answered b, sitting_of h z.pairs A)) (answered_keeps e))
-    other_request (answers.Refused f) o e =
+    -- A request that is refused leaves the sitting.
+    pub refused_request : (f : Refusal) → (read_refusal f, h) ≡ base.perform z.state (read_request r) → (read_refusal f, sitting_of h z.pairs z.active) ≡ perform z (call (read_request r))
+    unfolding is_refusal followed
+    refused_request f e =
         let same : h ≡ z.state = ap (λ (y : Answer × State). y.1) e ∙ base-settling.perform_refused z.state (read_request r) (subst (λ (y : Answer × State). T (is_refusal y.0)) e tt) in
-        ap (λ (s : State). (refused f.number f.place, sitting_of s z.pairs z.active)) same
+        ap (λ (s : State). (read_refusal f, sitting_of s z.pairs z.active)) same
         ∙ sym (beside z (read_request r) ∙ ap (followed z (read_request r)) (sym e))
+
+    -- A request that is answered with yes or no leaves the active roles.
+    answered_request : (b : Bool) → (answered b, h) ≡ base.perform z.state (read_request r) → (answered b, sitting_of h z.pairs z.active) ≡ perform z (call (read_request r))
+    unfolding is_refusal
+    answered_request b e =
+        sym (beside z (read_request r) ∙ ap (followed z (read_request r)) (sym e) ∙ followed_request h refl ∙ ap (λ (A : List ℕ). (answered b, sitting_of h z.pairs A)) (answered_keeps e))
+
+    -- So does a request with any answer but accepted.
+    pub other_request : (a : code.Answer) → (a ≡ Ok replies.Accepted → ⊥) → (read_answer a, h) ≡ base.perform z.state (read_request r)
+        → (read_answer a, sitting_of h z.pairs z.active) ≡ perform z (call (read_request r))
+    unfolding read_answer
+    other_request (Ok replies.Accepted) o e = absurd (o refl)
+    other_request (Ok (replies.Answered b)) o e = answered_request b e
+    other_request (Err f) o e = refused_request f e

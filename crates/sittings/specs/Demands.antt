@@ -1,7 +1,7 @@
 -- The customer's three demands on sittings, over the promises that the contracts of the code cite: a field for each sentence, its meaning above it.
 -- Bytes, records, tapes and buffers are any, and so is the sitting at hand, but where a sentence speaks of the sittings that a keeper reaches.
 -- What concerns images alone, reading, measuring and saving them, stands in the demands of `seats`.
-use Rattle.std.specs.Prelude.{◌≡◌, false, ◌↔◌, ℕ, suc, ◌+◌, ◌-◌, ◌^◌, ◌<◌, ◌≤◌, length, take, drop, T, Result}
+use Rattle.std.specs.Prelude.{◌≡◌, Bool, false, ◌↔◌, ℕ, suc, ◌+◌, ◌-◌, ◌^◌, ◌<◌, ◌≤◌, length, take, drop, T, Result}
 use mathlib.Core.List.{List, [], ◌∷◌, ◌++◌, map, Memᴰ}
 use Rattle.lists.specs.Runs.{unrefused, Each, Chain}
 use Rattle.graph.specs.Graph.{role_count, effective}
@@ -16,8 +16,8 @@ use Rattle.seats.specs.Tape.{records, lines, PartAnswer, fills, uncounted, joine
 use Rattle.seats.specs.Promises.{SavePromise}
 use Rattle.seats.specs.Demands.{One, refuses, OfCall, OfLoad, contents_in, load_order, load_checks, ChangedBy, Closes}
 use Rattle.seats.specs.Demands as state-demands
-use Rattle.seats.specs.Reading.{read_answer, read_filled, read_part}
-use Rattle.seats.specs.declared.Answer.{Answer}
+use Rattle.seats.specs.Reading.{read_answer, read_asked, read_filled, read_part}
+use Rattle.seats.specs.Replies.{Answer}
 use Rattle.graph.specs.declared.Refusal.{Refusal}
 use Rattle.sittings.specs.Sittings.{begun, excluded, is_active, may_use_active}
 use Rattle.sittings.specs.Sittings as sittings
@@ -82,7 +82,7 @@ pub record DemandOne : Type 0 where
   -- So there is to every load, whatever the bytes and the sitting at hand.
   pub load_answered : (z : Sitting) (l : List ℕ) → One read_outcome (λ x. LoadPromise z l x.0 x.1)
   -- So there is to every question, whatever the numbers.
-  pub question_answered : (z : sittings.Sitting) (i p : ℕ) → One read_answer (AskPromise z i p)
+  pub question_answered : (z : sittings.Sitting) (i p : ℕ) → One read_asked (AskPromise z i p)
   -- So there is to every part of a tape, with the buffer, the records so far and the sitting.
   pub part_answered : (z : Sitting) (count : ℕ) (part buffer : List ℕ) → One read_part_left (λ x. FeedPromise z count part buffer x.0 x.1)
   -- The records of a tape are all of it, and each has its answer.
@@ -94,7 +94,7 @@ pub record DemandOne : Type 0 where
   pub load_refused : (z y : Sitting) (l : List ℕ) (a : Answer) (n p : ℕ) → LoadPromise z l a y → read_answer a ≡ refused n p
       → OfLoad n × (p ≡ 0) × (read_sitting y ≡ read_sitting z)
   -- A refused question has number 2.
-  pub question_refused : (z : sittings.Sitting) (i k : ℕ) (a : Answer) (n p : ℕ) → AskPromise z i k a → read_answer a ≡ refused n p → n ≡ 2
+  pub question_refused : (z : sittings.Sitting) (i k : ℕ) (a : Result Bool Refusal) (n p : ℕ) → AskPromise z i k a → read_asked a ≡ refused n p → n ≡ 2
   -- A refused part of a tape has number 9 and place 0 and is not done.
   pub part_refused : (z : Sitting) (count : ℕ) (part buffer left : List ℕ) (f : Fed) (n p : ℕ) → FeedPromise z count part buffer f left → read_part f.answer ≡ fills (too_short n p)
       → (n ≡ 9) × (p ≡ 0) × Undone z count buffer f left
@@ -139,9 +139,9 @@ pub record DemandTwo : Type 0 where
   pub load_accepted_iff : (z y : Sitting) (l : List ℕ) (a : Answer) → LoadPromise z l a y → (read_answer a ≡ accepted) ↔ Passes (load_checks l)
   pub load_accepted : (z y : Sitting) (l : List ℕ) (a : Answer) → LoadPromise z l a y → read_answer a ≡ accepted → read_sitting y ≡ begun (restored (contents_in l))
   -- The question is refused with a number and a place exactly where the first of its numbers that is too high says so.
-  pub question_refused_iff : (z : sittings.Sitting) (i k : ℕ) (a : Answer) (n p : ℕ) → AskPromise z i k a → (read_answer a ≡ refused n p) ↔ First (question_checks i k) n p
+  pub question_refused_iff : (z : sittings.Sitting) (i k : ℕ) (a : Result Bool Refusal) (n p : ℕ) → AskPromise z i k a → (read_asked a ≡ refused n p) ↔ First (question_checks i k) n p
   -- Otherwise it says whether the seat's active roles reach a role that has the privilege.
-  pub question_accepted : (z : sittings.Sitting) (i k : ℕ) (a : Answer) → AskPromise z i k a → Passes (question_checks i k) → read_answer a ≡ answered (may_use_active z i k)
+  pub question_accepted : (z : sittings.Sitting) (i k : ℕ) (a : Result Bool Refusal) → AskPromise z i k a → Passes (question_checks i k) → read_asked a ≡ answered (may_use_active z i k)
   -- A part of a tape is refused exactly where its records are counted and the buffer has fewer bytes than its lines.
   pub part_refused_iff : (z : Sitting) (count : ℕ) (part buffer left : List ℕ) (f : Fed) (n p : ℕ) → FeedPromise z count part buffer f left
       → (read_part f.answer ≡ fills (too_short n p))

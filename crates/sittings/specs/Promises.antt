@@ -1,12 +1,13 @@
 -- What the operations promise of one record, one load, one question and one part of a tape; and demand 3 on the code, the list theorem for every chain of the step's promises.
-use Rattle.std.specs.Prelude.{◌≡◌, List, map, ℕ}
+use Rattle.std.specs.Prelude.{◌≡◌, Bool, List, map, ℕ, Result}
 use Rattle.lists.specs.Runs.{Each, Chain}
 use Rattle.graph.specs.Drawing.{edge}
 use Rattle.seats.specs.Bytes.{Bytes}
 use Rattle.seats.specs.Calls.{accepted}
 use Rattle.seats.specs.Tape.{feed}
-use Rattle.seats.specs.Reading.{read_answer}
-use Rattle.seats.specs.declared.Answer.{Answer}
+use Rattle.seats.specs.Reading.{read_answer, read_asked}
+use Rattle.seats.specs.Replies.{Answer}
+use Rattle.graph.specs.declared.Refusal.{Refusal}
 use Rattle.sittings.specs.Sittings.{fresh}
 use Rattle.sittings.specs.Sittings as sittings
 use Rattle.sittings.specs.Calls.{ask_active}
@@ -31,8 +32,8 @@ abbrev pub LoadPromise : Sitting → List ℕ → Answer → Sitting → Type 0
 LoadPromise z l a y = (read_answer a, read_sitting y) ≡ load_over (read_sitting z) l
 
 -- The question of seat i for privilege p, on the sitting z, gives the answer a.
-abbrev pub AskPromise : sittings.Sitting → ℕ → ℕ → Answer → Type 0
-AskPromise z i p a = read_answer a ≡ ask_active z i p
+abbrev pub AskPromise : sittings.Sitting → ℕ → ℕ → Result Bool Refusal → Type 0
+AskPromise z i p a = read_asked a ≡ ask_active z i p
 
 -- By the part of a tape, after so many records and from the sitting z, feeding gives f and leaves the buffer as `after`.
 abbrev pub FeedPromise : Sitting → ℕ → List ℕ → List ℕ → Fed → List ℕ → Type 0

@@ -1,22 +1,27 @@
 -- How the code's values are read as the paper's: sittings, calls, and what a call and a part of a tape come to.
-use Rattle.std.specs.Prelude.{List, ℕ, set, Option, Some, None}
+use Rattle.std.specs.Prelude.{List, ℕ, set, Option, Some, None, Result, Ok, Err}
+use Rattle.graph.specs.Refusing.{Verdict, passed, refused}
+use Rattle.graph.specs.Reasons.{reason_number}
 use Rattle.graph.specs.Reading.{read_change}
+use Rattle.graph.specs.declared.Refusal.{Refusal}
 use Rattle.seats.specs.Seats.{State}
-use Rattle.seats.specs.Calls.{Answer, change}
+use Rattle.seats.specs.Calls.{Answer, change, accepted}
 use Rattle.seats.specs.Tape.{PartAnswer}
-use Rattle.seats.specs.Reading.{state_of, read_request, read_answer, read_part}
+use Rattle.seats.specs.Reading.{read_state, read_request, read_refusal, read_part}
+use Rattle.seats.specs.Reading as seats
 use Rattle.sittings.specs.Sittings.{Sitting}
 use Rattle.sittings.specs.Calls.{Call, call, exclude, activate, deactivate}
 use Rattle.sittings.specs.Records.{Decoded, malformed, well_formed}
 use Rattle.sittings.specs.declared.Sitting as sitting-struct
+use Rattle.sittings.specs.declared.LentSitting as lent-struct
 use Rattle.sittings.specs.declared.Choice as choice-enum
 use Rattle.sittings.specs.declared.Choice.TheVariants as choices
 use Rattle.sittings.specs.declared.Call as call-enum
-use Rattle.sittings.specs.declared.Call.TheVariants as calls
 use Rattle.sittings.specs.declared.Step.{Step}
-use Rattle.sittings.specs.declared.Stored as stored-enum
-use Rattle.sittings.specs.declared.Stored.TheVariants as storings
-use Rattle.sittings.specs.declared.Chosen as chosen-struct
+use Rattle.sittings.specs.declared.Call.TheVariants as calls
+use Rattle.sittings.specs.declared.Chosen as chosen-enum
+use Rattle.sittings.specs.declared.Chosen.TheVariants as chosen
+use Rattle.sittings.specs.declared.Followed as followed-struct
 use Rattle.sittings.specs.declared.Fed as fed-struct
 
 -- The sitting of this state, these pairs and these active roles.
@@ -25,7 +30,11 @@ sitting_of s pairs active = record { state = s; pairs = pairs; active = active }
 
 -- A sitting as the code holds it.
 abbrev pub read_sitting : sitting-struct.Sitting → Sitting
-read_sitting z = sitting_of (state_of z.roles z.sets z.conflicts z.seats) z.pairs z.active
+read_sitting z = sitting_of (read_state z.state) z.pairs z.active
+
+-- A sitting whose tables are lent.
+abbrev pub lent : lent-struct.LentSitting → Sitting
+lent z = sitting_of (seats.lent z.state) z.pairs.now z.active.now
 
 -- The kind and fields of a call of kinds 13 to 15.
 unfoldable pub read_choice : choice-enum.Choice → Call
@@ -44,15 +53,16 @@ unfoldable pub read_decoded : Option Step → Decoded
 read_decoded (Some s) = well_formed (read_call s.call)
 read_decoded None = malformed
 
--- The sitting with what a call of kinds 13 to 15 stores: nothing, the roles that a role excludes, or the active roles of a seat.
-unfoldable pub stored : Sitting → stored-enum.Stored → Sitting
-stored z storings.Nothing = z
-stored z (storings.PairsOf e) = sitting_of z.state (set z.pairs e.lower e.higher) z.active
-stored z (storings.ActiveOf e) = sitting_of z.state z.pairs (set z.active e.seat e.roles)
-
 -- What a call of kinds 13 to 15 comes to: its answer, and the sitting after it.
-abbrev pub read_chosen : Sitting → chosen-struct.Chosen → Answer × Sitting
-read_chosen z d = (read_answer d.answer, stored z d.stored)
+unfoldable pub read_chosen : Sitting → Result chosen-enum.Chosen Refusal → Answer × Sitting
+read_chosen z (Ok (chosen.Pairs e)) = (accepted, sitting_of z.state (set z.pairs e.at e.set) z.active)
+read_chosen z (Ok (chosen.Active e)) = (accepted, sitting_of z.state z.pairs (set z.active e.at e.set))
+read_chosen z (Err r) = (read_refusal r, z)
+
+-- The verdict on what follows an accepted change.
+unfoldable pub read_followed : Result followed-struct.Followed Refusal → Verdict
+read_followed (Ok _) = passed
+read_followed (Err r) = refused (reason_number r.reason) r.place
 
 -- What feeding a part of a tape gives, with the buffer that it leaves.
 abbrev pub read_fed : fed-struct.Fed → List ℕ → (PartAnswer × List ℕ) × (ℕ × Sitting)

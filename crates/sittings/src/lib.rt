@@ -1,4 +1,5 @@
 // Sittings over the saved state: the pairs of roles that exclude each other, the active roles of each seat, the calls of kinds 1 to 15, and tapes.
+// Numbers are cast by `as`, of which the check refuses one that would lose bits, so `From` would say no more.
 
 #![tactic(auto)]
 
@@ -14,18 +15,24 @@ mod running;
 pub mod stepping;
 pub mod tape;
 
-use graph::{Change, Role, Verdict};
-use seats::{Answer, FeedError, Request, Seat, SeatEntry};
+use graph::table::Row;
+use graph::{Change, Role};
+use seats::{Answer, FeedError, LentState, Request, Seat, State};
 
 // What a keeper holds: the saved state; by role number the higher roles that it excludes; and by seat number the set of the seat's active roles.
 #[derive(Clone, Copy)]
 pub struct Sitting {
-    pub roles: u64,
-    pub sets: [u64; 64],
-    pub conflicts: [u64; 64],
-    pub seats: [u64; 64],
+    pub state: State,
     pub pairs: [u64; 64],
     pub active: [u64; 64],
+}
+
+// A sitting with its tables lent.
+#[derive(Clone, Copy)]
+pub struct LentSitting<'a> {
+    pub state: LentState<'a>,
+    pub pairs: &'a [u64],
+    pub active: &'a [u64],
 }
 
 // A call of kinds 13 to 15, with the fields that its kind names.
@@ -44,38 +51,22 @@ pub enum Call {
     Choice(Choice),
 }
 
-// A call as a record carries it.
+// A call as a record carries it; a struct around one field, since document 01 names the form.
 #[derive(Clone, Copy)]
 pub struct Step {
     pub call: Call,
 }
 
-// The higher roles that a role excludes.
+// What a choice that is not refused comes to: the roles that a role excludes, or the active roles of a seat, to be stored.
 #[derive(Clone, Copy)]
-pub struct PairEntry {
-    pub lower: usize,
-    pub higher: u64,
+pub enum Chosen {
+    Pairs(Row<u64>),
+    Active(Row<u64>),
 }
 
-// What a choice stores: nothing, the roles that a role excludes, or the active roles of a seat.
-#[derive(Clone, Copy)]
-pub enum Stored {
-    Nothing,
-    PairsOf(PairEntry),
-    ActiveOf(SeatEntry),
-}
-
-// What a choice comes to: its answer, and what it stores.
-#[derive(Clone, Copy)]
-pub struct Chosen {
-    pub answer: Answer,
-    pub stored: Stored,
-}
-
-// What an accepted change comes to by the pairs and the active roles: whether 35 refuses it, and the pairs and the active roles after it.
+// What follows an accepted change that 35 does not refuse: the pairs and the active roles after it.
 #[derive(Clone, Copy)]
 pub struct Followed {
-    pub verdict: Verdict,
     pub pairs: [u64; 64],
     pub active: [u64; 64],
 }

@@ -6,20 +6,14 @@ ghost use Rattle.sittings.specs.Promises.{LoadPromise};
 ghost use Rattle.sittings.specs.Reading.{read_sitting};
 
 use crate::{Loaded, Sitting};
-use seats::{Answer, State, loading};
+use seats::{Reply, State, loading};
 
 // A state as a sitting without pairs and active roles.
-fn begun(state: State) -> Sitting
+pub(crate) fn begun(state: State) -> Sitting
     ensures { read_sitting result ≡ begun (read_state state) }
 {
-    let sets = state.sets;
-    let conflicts = state.conflicts;
-    let seats = state.seats;
     Sitting {
-        roles: state.roles,
-        sets,
-        conflicts,
-        seats,
+        state,
         pairs: [0; 64],
         active: [0; 64],
     }
@@ -31,11 +25,11 @@ pub fn load(sitting: Sitting, bytes: &[u8]) -> Loaded
 {
     match loading::read_image(bytes) {
         Ok(state) => Loaded {
-            answer: Answer::Accepted,
+            answer: Ok(Reply::Accepted),
             sitting: begun(state),
         },
         Err(refusal) => Loaded {
-            answer: Answer::Refused(refusal),
+            answer: Err(refusal),
             sitting,
         },
     }

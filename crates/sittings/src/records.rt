@@ -37,10 +37,11 @@ fn named(kind: u8, a: u8, b: u8) -> Option<Step>
 fn own(bytes: &[u8]) -> Option<Step>
     ensures { read_decoded result ≡ own bytes.now }
 {
-    if !records::names_no_set(bytes) {
-        return None;
+    if records::names_no_set(bytes) {
+        named(bytes[0], bytes[1], bytes[2])
+    } else {
+        None
     }
-    named(bytes[0], bytes[1], bytes[2])
 }
 
 // What any bytes decode to.

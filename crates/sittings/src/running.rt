@@ -5,7 +5,8 @@ ghost use Rattle.seats.specs.Working.{PartRun};
 ghost use Rattle.sittings.specs.Records.{step};
 ghost use Rattle.sittings.specs.Reading.{read_sitting};
 
-use crate::{Sitting, lent};
+use crate::Sitting;
+use crate::lent::call;
 use seats::reader::TapeReader;
 use seats::text;
 
@@ -18,6 +19,7 @@ pub(crate) struct Ran {
 }
 
 // The records of a part of a tape, one after another, on one sitting; a line that has no room is not written.
+// The loop goes by the tape reader and by `call`, since document 01 names both forms.
 pub(crate) fn run(sitting: Sitting, count: u64, part: &[u8], buffer: &mut [u8]) -> Ran
     requires { count + length (records part.now) < 2 ^ 64 }
     ensures { PartRun step (read_sitting sitting) count part.now buffer.old result.count result.length (read_sitting result.sitting) buffer.new }
@@ -27,7 +29,7 @@ pub(crate) fn run(sitting: Sitting, count: u64, part: &[u8], buffer: &mut [u8]) 
     let mut length = 0;
     let mut reader = TapeReader::new(part);
     while !reader.ended() {
-        let answer = lent::call(&mut sitting, reader.next());
+        let answer = call(&mut sitting, reader.next());
         reader = reader.moved();
         index += 1;
         let start = length.min(buffer.len());

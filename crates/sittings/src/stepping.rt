@@ -1,158 +1,134 @@
-// The step: what a record of any bytes makes of a sitting. Tables are decided on as they are lent, and what changes is stored.
-ghost use Rattle.std.specs.Prelude.{◌≡◌, List, ℕ};
+// The step: what a record of any bytes makes of a sitting. A call is decided on the sitting as it is lent, and what changes is stored.
+ghost use Rattle.std.specs.Prelude.{◌≡◌, [], ◌∷◌, IfOk};
+ghost use Rattle.graph.specs.Tables.{at, table};
+ghost use Rattle.graph.specs.Graph.{role_count};
+ghost use Rattle.graph.specs.Refusing.{verdict};
 ghost use Rattle.graph.specs.Reading.{read_change};
 ghost use Rattle.seats.specs.Calls.{change};
-ghost use Rattle.seats.specs.Reading.{state_of, read_answer, read_request};
-ghost use Rattle.sittings.specs.Calls.{call, active_after, perform};
+ghost use Rattle.seats.specs.Reading as seats;
+ghost use Rattle.seats.specs.Reading.{state_of, read_state, read_answer, read_request};
+ghost use Rattle.sittings.specs.Sittings.{still_active};
+ghost use Rattle.sittings.specs.Calls.{call, pair_together, pairs_changed, active_after, perform};
 ghost use Rattle.sittings.specs.Records.{step};
 ghost use Rattle.sittings.specs.Promises.{StepPromise};
-ghost use Rattle.sittings.specs.Reading.{sitting_of, read_choice};
+ghost use Rattle.sittings.specs.Reading.{sitting_of, lent, read_sitting, read_choice, read_followed};
 
-use crate::{Call, Choice, Sitting, Stepped, Stored, choosing, following, records};
-use graph::table::store_roles;
-use graph::{Change, Verdict};
-use seats::answers::refusal;
-use seats::{Answer, Request, Taken, deciding, stepping};
+use crate::{Call, Choice, Chosen, Followed, LentSitting, Sitting, Stepped, records};
+use graph::table::store;
+use graph::{Change, Reason, Redrawn, Refusal};
+use seats::{Answer, LentState, Reply, Request};
 
-// A change on lent tables, which are written where it is accepted.
-fn take_change<'a>(
-    roles: u64,
-    sets: &mut [u64; 64],
-    conflicts: &'a [u64; 64],
-    seats: &'a [u64; 64],
-    pairs: &mut [u64; 64],
-    active: &mut [u64; 64],
-    edit: Change,
-) -> Taken
-    ensures { let C = conflicts.now in let W = seats.now in let z = sitting_of (state_of roles sets.old C W) pairs.old active.old in (read_answer result.answer, sitting_of (state_of result.roles sets.new C W) pairs.new active.new) ≡ perform z (call (change (read_change edit))) }
-{
-    let next = deciding::decide_change(roles, sets, conflicts, seats, edit);
-    let answer = next.answer;
-    match answer {
-        Answer::Accepted => {
-            let after = next.sets;
-            if following::is_idle(pairs, active) {
-                *sets = after;
-                return Taken {
-                    answer,
-                    roles: next.roles,
-                };
-            }
-            let followed = following::follow(next.roles, &after, seats, pairs, active, edit);
-            let verdict = followed.verdict;
-            match verdict {
-                Verdict::Refused(found) => Taken {
-                    answer: Answer::Refused(found),
-                    roles,
-                },
-                Verdict::Passed => {
-                    let left = followed.pairs;
-                    let on = followed.active;
-                    *sets = after;
-                    *pairs = left;
-                    *active = on;
-                    Taken {
-                        answer,
-                        roles: next.roles,
-                    }
-                }
-            }
-        }
-        _ => Taken { answer, roles },
-    }
-}
-
-// Kind 11, accepted: what no assigned role reaches any longer is switched off; no other request switches anything off.
-fn switch_off<'a>(
-    roles: u64,
-    sets: &'a [u64; 64],
-    seats: &'a [u64; 64],
-    active: &mut [u64; 64],
-    request: Request,
-)
-    ensures { (C : List ℕ) → active.new ≡ active_after (read_request request) (state_of roles sets.now C seats.now) active.old }
-{
-    match request {
-        Request::Unassign(seat, _) => {
-            let entry = following::unassigned(roles, sets, seats, active, seat);
-            store_roles(active, entry.seat, entry.roles);
-        }
-        _ => {}
-    }
-}
-
-// A request on lent conflicts, seats and active roles.
-fn take_request(
-    roles: u64,
-    sets: &[u64; 64],
-    conflicts: &mut [u64; 64],
-    seats: &mut [u64; 64],
-    active: &mut [u64; 64],
-    request: Request,
-) -> Taken
-    ensures { (P : List ℕ) → (read_answer result.answer, sitting_of (state_of result.roles sets.now conflicts.new seats.new) P active.new) ≡ perform (sitting_of (state_of roles sets.now conflicts.old seats.old) P active.old) (call (read_request request)) }
-{
-    let taken = stepping::take_request(roles, sets, conflicts, seats, request);
-    let answer = taken.answer;
-    match answer {
-        Answer::Accepted => {
-            switch_off(taken.roles, sets, seats, active, request);
-            taken
-        }
-        _ => taken,
-    }
-}
-
-// A choice on lent pairs and active roles.
-fn take_choice<'a>(
-    roles: u64,
-    sets: &'a [u64; 64],
-    seats: &'a [u64; 64],
-    pairs: &mut [u64; 64],
-    active: &mut [u64; 64],
-    choice: Choice,
-) -> Taken
-    ensures { (C : List ℕ) → (read_answer result.answer, sitting_of (state_of result.roles sets.now C seats.now) pairs.new active.new) ≡ perform (sitting_of (state_of roles sets.now C seats.now) pairs.old active.old) (read_choice choice) }
-{
-    let chosen = choosing::decide(roles, sets, seats, pairs, active, choice);
-    let answer = chosen.answer;
-    let stored = chosen.stored;
-    match stored {
-        Stored::Nothing => Taken { answer, roles },
-        Stored::PairsOf(entry) => {
-            store_roles(pairs, entry.lower, entry.higher);
-            Taken { answer, roles }
-        }
-        Stored::ActiveOf(entry) => {
-            store_roles(active, entry.seat, entry.roles);
-            Taken { answer, roles }
+impl<'a> LentSitting<'a> {
+    // The sitting of this state and these tables.
+    pub fn of(state: LentState<'a>, pairs: &'a [u64], active: &'a [u64]) -> LentSitting<'a>
+        ensures { lent result ≡ sitting_of (seats.lent state.entry) pairs.entry.now active.entry.now }
+    {
+        LentSitting {
+            state,
+            pairs,
+            active,
         }
     }
 }
 
-// A record on lent tables: refusal 1 before any field is looked at, or the call.
-pub fn take(
-    roles: u64,
-    sets: &mut [u64; 64],
-    conflicts: &mut [u64; 64],
-    seats: &mut [u64; 64],
-    pairs: &mut [u64; 64],
-    active: &mut [u64; 64],
-    bytes: &[u8],
-) -> Taken
-    ensures { (read_answer result.answer, sitting_of (state_of result.roles sets.new conflicts.new seats.new) pairs.new active.new) ≡ step (sitting_of (state_of roles sets.old conflicts.old seats.old) pairs.old active.old) bytes.now }
-{
-    let Some(step) = records::decode(bytes) else {
-        return Taken {
-            answer: refusal(1, 0),
-            roles,
+impl Sitting {
+    // The sitting with its tables lent.
+    pub fn lent(&self) -> LentSitting
+        ensures { lent result ≡ read_sitting self.now }
+    {
+        LentSitting::of(self.state.lent(), &self.pairs, &self.active)
+    }
+
+    // What follows an accepted change that leaves these roles and sets.
+    fn follow(&self, next: Redrawn, edit: Change) -> Result<Followed, Refusal>
+        ensures { let z = self.now in let h = state_of next.roles next.sets z.state.conflicts z.state.seats in let P = pairs_changed (read_change edit) z.pairs in let A = still_active h z.active in (read_followed result ≡ verdict (pair_together (sitting_of h P A) ∷ [])) × IfOk result (λ f. (f.pairs ≡ table role_count (at P)) × (f.active ≡ A)) }
+    {
+        let state = LentState::of(
+            next.roles,
+            &next.sets,
+            &self.state.conflicts,
+            &self.state.seats,
+        );
+        LentSitting::of(state, &self.pairs, &self.active).follow(edit)
+    }
+
+    // A change, decided whole: where it is accepted, the roles and the sets become those after it, and what follows is stored.
+    fn redraw(&mut self, edit: Change) -> Answer
+        ensures { (read_answer result, read_sitting self.new) ≡ perform (read_sitting self.old) (call (change (read_change edit))) }
+    {
+        let next = self.state.lent().decide_change(edit)?;
+        if self.lent().is_idle() {
+            let sets = next.sets;
+            self.state.roles = next.roles;
+            self.state.sets = sets;
+            return Ok(Reply::Accepted);
+        }
+        let followed = self.follow(next, edit)?;
+        let sets = next.sets;
+        let pairs = followed.pairs;
+        let active = followed.active;
+        self.state.roles = next.roles;
+        self.state.sets = sets;
+        self.pairs = pairs;
+        self.active = active;
+        Ok(Reply::Accepted)
+    }
+
+    // A change. What is refused early is refused before any table is made.
+    fn take_change(&mut self, edit: Change) -> Answer
+        ensures { (read_answer result, read_sitting self.new) ≡ perform (read_sitting self.old) (call (change (read_change edit))) }
+    {
+        self.state.lent().judge_early(edit)?;
+        self.redraw(edit)
+    }
+
+    // Kind 11, accepted: what no assigned role reaches any longer is switched off; no other request switches anything off.
+    fn switch_off(&mut self, request: Request)
+        ensures { read_sitting self.new ≡ record (read_sitting self.old) { active = active_after (read_request request) (read_state self.old.state) self.old.active } }
+    {
+        if let Request::Unassign(seat, _) = request {
+            let row = self.lent().unassigned(seat);
+            store(&mut self.active, row.at, row.set);
+        }
+    }
+
+    // A request: what it stores is stored, and kind 11 switches off.
+    fn take_request(&mut self, request: Request) -> Answer
+        ensures { (read_answer result, read_sitting self.new) ≡ perform (read_sitting self.old) (call (read_request request)) }
+    {
+        let reply = self.state.take_request(request)?;
+        if let Reply::Accepted = reply {
+            self.switch_off(request);
+        }
+        Ok(reply)
+    }
+
+    // A choice: what it stores is stored.
+    fn take_choice(&mut self, choice: Choice) -> Answer
+        ensures { (read_answer result, read_sitting self.new) ≡ perform (read_sitting self.old) (read_choice choice) }
+    {
+        match self.lent().decide(choice)? {
+            Chosen::Pairs(row) => store(&mut self.pairs, row.at, row.set),
+            Chosen::Active(row) => store(&mut self.active, row.at, row.set),
+        }
+        Ok(Reply::Accepted)
+    }
+
+    // A record: refusal 1 before any field is looked at, or the call.
+    pub fn take(&mut self, bytes: &[u8]) -> Answer
+        ensures { StepPromise self.old bytes.now result self.new }
+    {
+        let Some(step) = records::decode(bytes) else {
+            return Err(Refusal {
+                reason: Reason::Malformed,
+                place: 0,
+            });
         };
-    };
-    let call = step.call;
-    match call {
-        Call::Change(edit) => take_change(roles, sets, conflicts, seats, pairs, active, edit),
-        Call::Request(request) => take_request(roles, sets, conflicts, seats, active, request),
-        Call::Choice(choice) => take_choice(roles, sets, seats, pairs, active, choice),
+        match step.call {
+            Call::Change(edit) => self.take_change(edit),
+            Call::Request(request) => self.take_request(request),
+            Call::Choice(choice) => self.take_choice(choice),
+        }
     }
 }
 
@@ -160,31 +136,7 @@ pub fn take(
 pub fn step(sitting: Sitting, bytes: &[u8]) -> Stepped
     ensures { StepPromise sitting bytes.now result.answer result.sitting }
 {
-    let mut sets = sitting.sets;
-    let mut conflicts = sitting.conflicts;
-    let mut seats = sitting.seats;
-    let mut pairs = sitting.pairs;
-    let mut active = sitting.active;
-    let taken = take(
-        sitting.roles,
-        &mut sets,
-        &mut conflicts,
-        &mut seats,
-        &mut pairs,
-        &mut active,
-        bytes,
-    );
-    let answer = taken.answer;
-    let next = Sitting {
-        roles: taken.roles,
-        sets,
-        conflicts,
-        seats,
-        pairs,
-        active,
-    };
-    Stepped {
-        answer,
-        sitting: next,
-    }
+    let mut sitting = sitting;
+    let answer = sitting.take(bytes);
+    Stepped { answer, sitting }
 }

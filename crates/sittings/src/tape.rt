@@ -6,25 +6,19 @@ ghost use Rattle.sittings.specs.Records.{step};
 ghost use Rattle.sittings.specs.Promises.{FreshPromise, FeedPromise};
 ghost use Rattle.sittings.specs.Reading.{read_sitting};
 
+use crate::loading::begun;
 use crate::running::run;
 use crate::{Fed, Sitting};
-use graph::Refusal;
-use seats::FeedError;
+use graph::{Reason, Refusal};
 use seats::records::RECORD;
 use seats::text::LINE;
+use seats::{FeedError, loading};
 
 // A fresh sitting.
 pub fn fresh() -> Sitting
     ensures { FreshPromise result }
 {
-    Sitting {
-        roles: 0,
-        sets: [0; 64],
-        conflicts: [0; 64],
-        seats: [0; 64],
-        pairs: [0; 64],
-        active: [0; 64],
-    }
+    begun(loading::fresh())
 }
 
 // How many records so many bytes make, a partial last one among them.
@@ -60,7 +54,7 @@ pub fn feed(sitting: Sitting, count: u64, part: &[u8], buffer: &mut [u8]) -> Fed
     if !can_feed(sitting, count, part, buffer.len()) {
         return Fed {
             answer: Err(FeedError::TooShort(Refusal {
-                number: 9,
+                reason: Reason::BufferTooShort,
                 place: 0,
             })),
             count,

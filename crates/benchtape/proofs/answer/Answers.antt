@@ -1,34 +1,26 @@
--- `answer` meets its contract: what feeding gives, or where it stood.
+-- `answer` meets its contract: it is what feeding gives.
 -- Assumes nothing.
 use mathlib.Core.Path.{sym}
 use lib.Seq.{length-take-le}
+use Rattle.sittings.specs.Records.{step}
 use Rattle.sittings.specs.Reading.{read_sitting}
+use Rattle.seats.proofs.Feeding.{Told}
 use Rattle.benchtape.proofs.Going.{fed_told, answered}
 use Rattle.benchtape.proofs.answer.Goals as goal
+use Rattle.benchtape.proofs.answer.Goals.{In_ok-n}
+
+-- What feeding gives.
+told : (j : In_ok-n) → Told step (read_sitting j.args.progress.sitting) j.args.progress.count j.args.bytes.now j.in_ok-n.n j.feed-fed.new.buffer (j.feed-fed.result.count, read_sitting j.feed-fed.result.sitting)
+told j = fed_told j.in_ok-n.was (read_sitting j.args.progress.sitting) j.args.progress.count j.args.bytes.now _ j.feed-fed.ensures
 
 pub slice_bounds-room-end : goal.slice_bounds-room-end
-slice_bounds-room-end c =
-    let s = c.args in
-    (fed_told c.in-Ok.is (read_sitting s.progress.sitting) s.progress.count s.bytes.now _ c.feed-fed.ensures).within
+slice_bounds-room-end c = (told (goal.at.slice_bounds-room-end c).In_ok-n).within
 
 pub slice_bounds-write_lines-end : goal.slice_bounds-write_lines-end
-slice_bounds-write_lines-end c =
-    let s = c.args in
-    let t = fed_told c.in-Ok.is (read_sitting s.progress.sitting) s.progress.count s.bytes.now _ c.feed-fed.ensures in
-    sym (length-take-le _ _ t.within)
+slice_bounds-write_lines-end c = sym (length-take-le _ _ (told (goal.at.slice_bounds-write_lines-end c).In_ok-n).within)
 
 pub write_lines-requires : goal.write_lines-requires
-write_lines-requires c =
-    let s = c.args in
-    (fed_told c.in-Ok.is (read_sitting s.progress.sitting) s.progress.count s.bytes.now _ c.feed-fed.ensures).text
+write_lines-requires c = (told (goal.at.write_lines-requires c).In_ok-n).text
 
-pub returns-then-not-write_lines : goal.returns-then-not-write_lines
-returns-then-not-write_lines c = c.stop-then-not-write_lines.ensures _
-
-pub returns-in-Err-TooShort : goal.returns-in-Err-TooShort
-returns-in-Err-TooShort c = c.stop-in-Err-TooShort.ensures _
-
-pub returns-else-not-write_lines : goal.returns-else-not-write_lines
-returns-else-not-write_lines c =
-    let s = c.args in
-    answered (fed_told c.in-Ok.is (read_sitting s.progress.sitting) s.progress.count s.bytes.now _ c.feed-fed.ensures)
+pub returns : goal.returns
+returns c = answered (told (goal.at.returns c).In_ok-n)

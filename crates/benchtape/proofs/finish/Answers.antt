@@ -7,12 +7,12 @@ use Rattle.benchtape.proofs.Going.{line_told, edges_of}
 use Rattle.benchtape.proofs.finish.Goals as goal
 
 pub slice_bounds-room-end : goal.slice_bounds-room-end
-slice_bounds-room-end c = (line_told _ _ c.in-Ok.ensures).0
+slice_bounds-room-end c = (line_told c.in_ok-n.was _ _ c.write_end.ensures).0
 
 pub slice_bounds-write_last-end : goal.slice_bounds-write_last-end
-slice_bounds-write_last-end c = sym (length-take-le _ _ (line_told _ _ c.in-Ok.ensures).0)
+slice_bounds-write_last-end c = sym (length-take-le _ _ (line_told c.in_ok-n.was _ _ c.write_end.ensures).0)
 
 pub write_last-requires : goal.write_last-requires
 write_last-requires c =
-    let n = c.edge_count-edges.ensures ∙ edges_of c.args.progress.sitting in
-    (c.requires, (line_told _ _ c.in-Ok.ensures).1 ∙ ap (end_line c.args.progress.count) n)
+    let n = c.from-edges.ensures ∙ c.edge_count.ensures ∙ edges_of c.lent.result c.lent.ensures in
+    (c.requires, (line_told c.in_ok-n.was _ _ c.write_end.ensures).1 ∙ ap (end_line c.args.progress.count) n)

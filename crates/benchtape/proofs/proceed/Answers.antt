@@ -1,17 +1,7 @@
--- `proceed` meets its contract: a failure and an answer both leave the program where a tape leads.
+-- `proceed` meets its contract: where the bytes are answered, the program stands where a longer tape leads.
 -- Assumes nothing.
-use mathlib.Core.List.{[]}
-use Rattle.benchtape.proofs.Going.{within, proceeded}
+use Rattle.benchtape.proofs.Going.{proceeded_ok}
 use Rattle.benchtape.proofs.proceed.Goals as goal
 
-pub slice_bounds-buffer-end : goal.slice_bounds-buffer-end
-slice_bounds-buffer-end c = (within _ c.in-Bytes.is c.fill-read.ensures).0
-
-pub slice_bounds-answer-end : goal.slice_bounds-answer-end
-slice_bounds-answer-end c = (within _ c.in-Bytes.is c.fill-read.ensures).1
-
-pub returns-in-Failed : goal.returns-in-Failed
-returns-in-Failed c = proceeded c.args.progress _ [] c.requires.0 c.requires.1 (c.stop.ensures [])
-
-pub returns-in-Bytes : goal.returns-in-Bytes
-returns-in-Bytes c = proceeded c.args.progress _ _ c.requires.0 c.requires.1 c.answer.ensures
+pub returns : goal.returns
+returns c = proceeded_ok c.args.progress _ c.requires.0 c.requires.1 c.answer.result c.answer.ensures

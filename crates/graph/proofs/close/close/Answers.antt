@@ -1,31 +1,28 @@
 -- `graph::close::close` meets its contract: the roles that are not present are done from the start, and each turn does one that is.
 -- Assumes nothing.
-use mathlib.Core.Path.{ap}
-use Rattle.graph.specs.Reading.{sets_in}
+use mathlib.Core.Path.{refl}
+use Rattle.sets.proofs.Walking.{started, turn_member, all_seen}
 use Rattle.graph.specs.Working.{closed_set}
-use Rattle.graph.proofs.Loops.{left_lowest, left_falls}
+use Rattle.graph.proofs.PrivilegeTables.{whole_sets}
 use Rattle.graph.proofs.Memo.{doing_none, doing_next, doing_done}
 use Rattle.graph.proofs.close.close.Goals as goal
 
-pub loop-rest-init : goal.loop-rest-init
-loop-rest-init c =
-    doing_none c.requires c.ranges.present.fits c.copied_sets-sets.ensures.1 (ap sets_in c.copied_sets-sets.ensures.0) c.difference-done.ensures
+pub loop-r-init : goal.loop-r-init
+loop-r-init c = doing_none c.requires (whole_sets _ c.told-directs) refl c.difference-done.ensures
 
-pub close_role-done-requires : goal.close_role-done-requires
-close_role-done-requires c =
-    let l = c.loop-rest.invariant in
-    let some = c.loop-rest-test.true in
-    let m = c.lowest_member-r.ensures in
-    record { is_role = left_lowest l.left some m; ending = c.requires.ending; memo = l.memo }
+pub close_role-done-requires-clause-is_role : goal.close_role-done-requires-clause-is_role
+close_role-done-requires-clause-is_role c =
+    let l = c.loop-r in
+    (turn_member (started c.into_iter-r-iterator.ensures.into_iter_gives c.members-r-items.ensures) l.yielded _ _ _ l.yielded_by c.in-Some.is c.next.ensures.steps).0
 
-pub loop-rest-smaller : goal.loop-rest-smaller
-loop-rest-smaller c = left_falls c.loop-rest.invariant.left c.loop-rest-test.true c.without_lowest-rest.ensures
-
-pub loop-rest-preserved : goal.loop-rest-preserved
-loop-rest-preserved c =
-    let k = c.close_role-done in
-    doing_next c.loop-rest.invariant c.loop-rest-test.true c.lowest_member-r.ensures k.ensures.memo_after k.ensures.kept k.ensures.is_done c.without_lowest-rest.ensures
+pub loop-r-preserved : goal.loop-r-preserved
+loop-r-preserved c =
+    let k = c.close_role-done.ensures in
+    doing_next c.loop-r.invariant c.in-Some.r k.memo_after k.kept k.is_done
 
 pub returns : goal.returns
 unfolding closed_set
-returns c = doing_done c.loop-rest.invariant c.loop-rest-test.false
+returns c =
+    let l = c.loop-r in
+    doing_done l.invariant c.ranges.present.fits
+    (all_seen (started c.into_iter-r-iterator.ensures.into_iter_gives c.members-r-items.ensures) l.yielded _ _ _ l.yielded_by c.in-None.is c.next.ensures.steps)

@@ -4,5 +4,4 @@ use mathlib.Core.Path.{◌∙◌}
 use Rattle.graph.proofs.declaring.with_conflict.Goals as goal
 
 pub returns : goal.returns
-returns c =
-    (c.lower_of-lower.ensures, c.union-higher.ensures ∙ rw (c.entry.ensures, c.lower_of-lower.ensures, c.single.ensures, c.higher_of.ensures))
+returns c = (c.min-at.ensures, c.union-set.ensures ∙ rw (c.entry.ensures, c.min-at.ensures, c.single.ensures, c.max.ensures))

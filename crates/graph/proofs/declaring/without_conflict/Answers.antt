@@ -11,5 +11,5 @@ use Rattle.graph.proofs.declaring.without_conflict.Goals as goal
 pub returns : goal.returns
 returns c =
     let e = c.entry in
-    let high = c.higher_of in
-    (c.lower_of-lower.ensures, c.difference-higher.ensures ∙ ap (difference _) c.single.ensures ∙ taken_out privilege_count (read_set e.result) high.result.0 (search rules) ∙ rw (e.ensures, c.lower_of-lower.ensures, high.ensures))
+    let high = c.max in
+    (c.min-at.ensures, c.difference-set.ensures ∙ ap (difference _) c.single.ensures ∙ taken_out privilege_count (read_set e.result) high.result (search rules) ∙ rw (e.ensures, c.min-at.ensures, high.ensures))

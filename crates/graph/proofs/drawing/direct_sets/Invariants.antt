@@ -5,8 +5,5 @@ use Rattle.graph.specs.Reading.{sets_in}
 use Rattle.graph.proofs.Loops.{Filling}
 use Rattle.graph.proofs.drawing.direct_sets.Given as goal
 
-abbrev pub invariant-loop-rest : goal.invariant-loop-rest
-invariant-loop-rest l = Filling (λ s. difference (at (sets_in l.sets) s) (gather role_count (λ r. member r (at l.juniors s)) (at (sets_in l.sets)))) (at (sets_in l.initial.direct)) l.all l.rest (sets_in l.direct)
-
-abbrev pub decreases-loop-rest : goal.decreases-loop-rest
-decreases-loop-rest l = l.rest
+abbrev pub invariant-loop-s : goal.invariant-loop-s
+invariant-loop-s l = Filling (λ s. difference (at (sets_in l.sets) s) (gather role_count (λ r. member r (at l.juniors s)) (at (sets_in l.sets)))) (at (sets_in l.initial.direct)) l.yielded (sets_in l.direct)

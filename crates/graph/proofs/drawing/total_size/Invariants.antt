@@ -4,8 +4,5 @@ use Rattle.graph.specs.Tables.{at}
 use Rattle.graph.proofs.Loops.{Summing}
 use Rattle.graph.proofs.drawing.total_size.Given as goal
 
-abbrev pub invariant-loop-rest : goal.invariant-loop-rest
-invariant-loop-rest l = Summing (λ s. size role_count (at l.table s)) l.all l.rest l.total
-
-abbrev pub decreases-loop-rest : goal.decreases-loop-rest
-decreases-loop-rest l = l.rest
+abbrev pub invariant-loop-s : goal.invariant-loop-s
+invariant-loop-s l = Summing (λ s. size role_count (at l.table s)) l.yielded l.total

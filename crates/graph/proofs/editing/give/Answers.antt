@@ -5,4 +5,4 @@ use Rattle.graph.proofs.Holding.{joined_all}
 use Rattle.graph.proofs.editing.give.Goals as goal
 
 pub returns : goal.returns
-returns c = joined_all _ _ _ (c.exchange_sets.ensures ∙ rw c.empty.ensures)
+returns c = joined_all _ _ _ (c.exchange.ensures ∙ rw c.empty.ensures)

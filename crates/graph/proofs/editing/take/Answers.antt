@@ -5,4 +5,4 @@ use Rattle.graph.proofs.Holding.{taken_all}
 use Rattle.graph.proofs.editing.take.Goals as goal
 
 pub returns : goal.returns
-returns c = taken_all _ _ _ (c.exchange_sets.ensures ∙ rw c.empty.ensures)
+returns c = taken_all _ _ _ (c.exchange.ensures ∙ rw c.empty.ensures)

@@ -24,26 +24,26 @@ returns-then-r-lt2 c =
     )
     c.refuse-then-r-lt2.ensures
 
-pub returns-in-At : goal.returns-in-At
+pub returns-in-Some : goal.returns-in-Some
 unfolding early verdict input_checks state_checks is_end effective
-returns-in-At c =
+returns-in-Some c =
     simp (
       lt-leb role_count _ c.if-r-ge64.false,
       le-ltb _ 2 c.if-r-lt2.false,
-      place_found _ _ c.end_in-low.ensures c.in-At.is,
+      place_found _ _ c.end_in.ensures c.in-Some.is,
     )
-    (c.refuse-in-At.ensures ∙ ap (refused 3) (place_lowest _ _ c.end_in-low.ensures c.in-At.is))
+    (c.refuse-in-Some.ensures ∙ ap (refused 3) (place_lowest _ _ c.end_in.ensures c.in-Some.is))
 
-pub returns-in-At-high : goal.returns-in-At-high
+pub returns-in-Some-end_in : goal.returns-in-Some-end_in
 unfolding early verdict input_checks state_checks is_end effective
-returns-in-At-high c =
+returns-in-Some-end_in c =
     simp (
       lt-leb role_count _ c.if-r-ge64.false,
       le-ltb _ 2 c.if-r-lt2.false,
-      place_none _ _ c.end_in-low.ensures c.in_default.is,
-      place_found _ _ c.end_in-high.ensures c.in-At-high.is,
+      place_none _ _ c.end_in.ensures c.in_default.is,
+      place_found _ _ c.end_in-2.ensures c.in-Some-end_in.is,
     )
-    (c.refuse-in-At-high.ensures ∙ ap (refused 3) (place_lowest _ _ c.end_in-high.ensures c.in-At-high.is))
+    (c.refuse-in-Some-end_in.ensures ∙ ap (refused 3) (place_lowest _ _ c.end_in-2.ensures c.in-Some-end_in.is))
 
 pub returns-then-in_either : goal.returns-then-in_either
 unfolding early verdict input_checks state_checks is_end effective
@@ -51,8 +51,8 @@ returns-then-in_either c =
     simp (
       lt-leb role_count _ c.if-r-ge64.false,
       le-ltb _ 2 c.if-r-lt2.false,
-      place_none _ _ c.end_in-low.ensures c.in_default.is,
-      place_none _ _ c.end_in-high.ensures c.in_default-high.is,
+      place_none _ _ c.end_in.ensures c.in_default.is,
+      place_none _ _ c.end_in-2.ensures c.in_default-end_in.is,
       sym c.in_either.ensures ∙ c.if-in_either.true,
     )
     c.refuse-then-in_either.ensures
@@ -63,8 +63,8 @@ returns c =
     simp (
       lt-leb role_count _ c.if-r-ge64.false,
       le-ltb _ 2 c.if-r-lt2.false,
-      place_none _ _ c.end_in-low.ensures c.in_default.is,
-      place_none _ _ c.end_in-high.ensures c.in_default-high.is,
+      place_none _ _ c.end_in.ensures c.in_default.is,
+      place_none _ _ c.end_in-2.ensures c.in_default-end_in.is,
       sym c.in_either.ensures ∙ c.if-in_either.false,
     )
     c.judge_placing.ensures

@@ -26,7 +26,7 @@ returns-then-r-lt2 c =
 pub returns-then-is_present : goal.returns-then-is_present
 unfolding early verdict input_checks state_checks is_end effective
 returns-then-is_present c =
-    let sets = c.args.sets.now in
+    let sets = c.args.graph.sets.now in
     simp (
       lt-leb role_count _ c.if-r-ge64.false,
       le-ltb _ 2 c.if-r-lt2.false,
@@ -37,7 +37,7 @@ returns-then-is_present c =
 pub returns : goal.returns
 unfolding early verdict input_checks state_checks is_end effective read_verdict
 returns c =
-    let sets = c.args.sets.now in
+    let sets = c.args.graph.sets.now in
     simp (
       lt-leb role_count _ c.if-r-ge64.false,
       le-ltb _ 2 c.if-r-lt2.false,

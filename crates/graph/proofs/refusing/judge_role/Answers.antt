@@ -1,6 +1,6 @@
 -- `refusing::judge_role` meets its contract: each return is the check that it stands for.
 -- Assumes nothing.
-use borrow.Author.Tests.{lt-ltb, le-ltb, le-leb, lt-leb, not-true, not-false}
+use borrow.Author.Tests.{lt-ltb, le-ltb, le-leb, lt-leb}
 use mathlib.Core.Path.{sym, ◌∙◌}
 use Rattle.graph.specs.Graph.{role_count, is_end}
 use Rattle.graph.specs.Refusing.{verdict}
@@ -29,7 +29,7 @@ returns-then-not-is_present c =
     simp (
       lt-leb role_count _ c.if-a-ge64.false,
       le-ltb _ 2 c.if-a-lt2.false,
-      sym c.is_present.ensures ∙ not-true _ c.if-not-is_present.true-raw,
+      sym c.is_present.ensures ∙ c.if-not-is_present.true,
     )
     c.refuse-then-not-is_present.ensures
 
@@ -39,5 +39,5 @@ returns c =
     simp (
       lt-leb role_count _ c.if-a-ge64.false,
       le-ltb _ 2 c.if-a-lt2.false,
-      sym c.is_present.ensures ∙ not-false _ c.if-not-is_present.false-raw,
+      sym c.is_present.ensures ∙ c.if-not-is_present.false,
     )

@@ -1,7 +1,7 @@
 -- `refusing::judge_role_privilege` meets its contract: each return is the check that it stands for.
 -- Assumes nothing.
 use mathlib.Core.Path.{sym, ◌∙◌}
-use borrow.Author.Tests.{lt-ltb, le-ltb, le-leb, lt-leb, not-true, not-false}
+use borrow.Author.Tests.{lt-ltb, le-ltb, le-leb, lt-leb}
 use Rattle.graph.specs.Graph.{role_count, privilege_count, is_end}
 use Rattle.graph.specs.Refusing.{verdict}
 use Rattle.graph.specs.Reading.{read_verdict}
@@ -40,7 +40,7 @@ returns-then-not-is_present c =
       lt-leb role_count _ c.if-r-ge64.false,
       lt-leb privilege_count _ c.if-p-ge64.false,
       le-ltb _ 2 c.if-r-lt2.false,
-      sym c.is_present.ensures ∙ (not-true _ c.if-not-is_present.true-raw),
+      sym c.is_present.ensures ∙ c.if-not-is_present.true,
     )
     c.refuse-then-not-is_present.ensures
 
@@ -51,5 +51,5 @@ returns c =
       lt-leb role_count _ c.if-r-ge64.false,
       lt-leb privilege_count _ c.if-p-ge64.false,
       le-ltb _ 2 c.if-r-lt2.false,
-      sym c.is_present.ensures ∙ not-false _ c.if-not-is_present.false-raw,
+      sym c.is_present.ensures ∙ c.if-not-is_present.false,
     )

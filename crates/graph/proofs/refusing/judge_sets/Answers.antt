@@ -7,34 +7,34 @@ use Rattle.graph.specs.Reading.{read_verdict}
 use Rattle.graph.proofs.Judging.{stops, moves_on, ends, place_found, place_lowest, place_none}
 use Rattle.graph.proofs.refusing.judge_sets.Goals as goal
 
-pub returns-in-At : goal.returns-in-At
+pub returns-in-Some : goal.returns-in-Some
 unfolding ordinary effective empty_role closed_checks
-returns-in-At c =
-    let e = c.empty_role-empty.ensures in
-    let at = c.in-At.is in
+returns-in-Some c =
+    let e = c.empty_role.ensures in
+    let at = c.in-Some.is in
     c.refuse.ensures ∙ ap (refused 27) (place_lowest _ _ e at) ∙ sym (stops _ _ (place_found _ _ e at))
 
-pub returns-in-At-twin : goal.returns-in-At-twin
+pub returns-in-Some-twin_role : goal.returns-in-Some-twin_role
 unfolding ordinary effective empty_role twin_role closed_checks
-returns-in-At-twin c =
-    let at = c.in-At-twin.is in
-    c.refuse-in-At-twin.ensures ∙ ap (refused 28) (place_lowest _ _ c.twin_role-twin.ensures at)
-    ∙ sym (moves_on _ _ (place_none _ _ c.empty_role-empty.ensures c.in_default.is)
-    ∙ stops _ _ (place_found _ _ c.twin_role-twin.ensures at))
+returns-in-Some-twin_role c =
+    let at = c.in-Some-twin_role.is in
+    c.refuse-in-Some-twin_role.ensures ∙ ap (refused 28) (place_lowest _ _ c.twin_role.ensures at)
+    ∙ sym (moves_on _ _ (place_none _ _ c.empty_role.ensures c.in_default.is)
+    ∙ stops _ _ (place_found _ _ c.twin_role.ensures at))
 
-pub returns-in-At-pair : goal.returns-in-At-pair
+pub returns-in-Some-pair_role : goal.returns-in-Some-pair_role
 unfolding ordinary effective empty_role twin_role closed_checks
-returns-in-At-pair c =
-    let at = c.in-At-pair.is in
-    c.refuse-in-At-pair.ensures ∙ ap (refused 29) (place_lowest _ _ c.pair_role-pair.ensures at)
-    ∙ sym (moves_on _ _ (place_none _ _ c.empty_role-empty.ensures c.in_default.is)
-    ∙ moves_on _ _ (place_none _ _ c.twin_role-twin.ensures c.in_default-twin.is)
-    ∙ stops _ _ (place_found _ _ c.pair_role-pair.ensures at))
+returns-in-Some-pair_role c =
+    let at = c.in-Some-pair_role.is in
+    c.refuse-in-Some-pair_role.ensures ∙ ap (refused 29) (place_lowest _ _ c.pair_role.ensures at)
+    ∙ sym (moves_on _ _ (place_none _ _ c.empty_role.ensures c.in_default.is)
+    ∙ moves_on _ _ (place_none _ _ c.twin_role.ensures c.in_default-twin_role.is)
+    ∙ stops _ _ (place_found _ _ c.pair_role.ensures at))
 
 pub returns : goal.returns
 unfolding ordinary effective empty_role twin_role closed_checks read_verdict
 returns c =
     ends
-    ∙ sym (moves_on _ _ (place_none _ _ c.empty_role-empty.ensures c.in_default.is)
-    ∙ moves_on _ _ (place_none _ _ c.twin_role-twin.ensures c.in_default-twin.is)
-    ∙ moves_on _ _ (place_none _ _ c.pair_role-pair.ensures c.in_default-pair.is))
+    ∙ sym (moves_on _ _ (place_none _ _ c.empty_role.ensures c.in_default.is)
+    ∙ moves_on _ _ (place_none _ _ c.twin_role.ensures c.in_default-twin_role.is)
+    ∙ moves_on _ _ (place_none _ _ c.pair_role.ensures c.in_default-pair_role.is))

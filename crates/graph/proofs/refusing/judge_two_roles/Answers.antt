@@ -1,7 +1,7 @@
 -- `refusing::judge_two_roles` meets its contract: each return is the check that it stands for.
 -- Assumes nothing.
 use mathlib.Core.Path.{sym, ◌∙◌}
-use borrow.Author.Tests.{lt-ltb, le-ltb, le-leb, lt-leb, eq-eqb, ne_eqb, not-true, not-false}
+use borrow.Author.Tests.{lt-ltb, le-ltb, le-leb, lt-leb, eq-eqb, ne_eqb}
 use Rattle.graph.specs.Graph.{role_count, is_end}
 use Rattle.graph.specs.Refusing.{verdict}
 use Rattle.graph.specs.Reading.{read_verdict}
@@ -65,7 +65,7 @@ returns-then-not-is_present c =
       le-ltb _ 2 c.if-r-lt2.false,
       le-ltb _ 2 c.if-s-lt2.false,
       ne_eqb _ _ c.if-r-s.false,
-      sym c.is_present.ensures ∙ (not-true _ c.if-not-is_present.true-raw),
+      sym c.is_present.ensures ∙ c.if-not-is_present.true,
     )
     c.refuse-then-not-is_present.ensures
 
@@ -78,8 +78,8 @@ returns-then-not-is_present-2 c =
       le-ltb _ 2 c.if-r-lt2.false,
       le-ltb _ 2 c.if-s-lt2.false,
       ne_eqb _ _ c.if-r-s.false,
-      sym c.is_present.ensures ∙ (not-false _ c.if-not-is_present.false-raw),
-      sym c.is_present-2.ensures ∙ (not-true _ c.if-not-is_present-2.true-raw),
+      sym c.is_present.ensures ∙ c.if-not-is_present.false,
+      sym c.is_present-2.ensures ∙ c.if-not-is_present-2.true,
     )
     c.refuse-then-not-is_present-2.ensures
 
@@ -92,6 +92,6 @@ returns c =
       le-ltb _ 2 c.if-r-lt2.false,
       le-ltb _ 2 c.if-s-lt2.false,
       ne_eqb _ _ c.if-r-s.false,
-      sym c.is_present.ensures ∙ not-false _ c.if-not-is_present.false-raw,
-      sym c.is_present-2.ensures ∙ not-false _ c.if-not-is_present-2.false-raw,
+      sym c.is_present.ensures ∙ c.if-not-is_present.false,
+      sym c.is_present-2.ensures ∙ c.if-not-is_present-2.false,
     )

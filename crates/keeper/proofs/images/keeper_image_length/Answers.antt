@@ -3,7 +3,7 @@
 use mathlib.Core.Path.{ap, ◌∙◌}
 use Prim.Native.Nat.{ℕ, ◌+◌}
 use native.Mathlib.Omega.{arith}
-use Rattle.seats.specs.Reading.{read_measured}
+use Rattle.seats.specs.Reading.{read_measured, read_answer}
 use Rattle.keeper.specs.Block.{not_saved, length_code}
 use Rattle.keeper.specs.Exports.{image_length}
 use Rattle.keeper.proofs.SaveCode.{measured_le}
@@ -20,5 +20,5 @@ unfolding image_length length_code read_measured
 returns-in-Ok c = ap length_code c.in-Ok.ensures
 
 pub returns-in-Err : goal.returns-in-Err
-unfolding image_length length_code read_measured
-returns-in-Err c = ap (λ (k : ℕ). not_saved + k) c.refusal_code.ensures.0 ∙ ap length_code c.in-Err.ensures
+unfolding read_answer image_length length_code read_measured
+returns-in-Err c = ap (λ (k : ℕ). not_saved + k) c.code.ensures.0 ∙ ap length_code c.in-Err.ensures

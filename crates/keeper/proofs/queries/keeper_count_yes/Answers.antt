@@ -1,14 +1,13 @@
--- `keeper::queries::keeper_count_yes` meets its contract, by two parts of the block.
+-- `keeper::queries::keeper_count_yes` meets its contract: it shows the state that the block holds.
 -- Assumes nothing.
-use borrow.Author.Tests.{lt-leb, le-leb}
-use Rattle.keeper.specs.Block.{of_state}
 use Rattle.keeper.specs.Exports.{count_yes_block}
+use Rattle.keeper.proofs.Shown.{no_state, state_shown}
 use Rattle.keeper.proofs.queries.keeper_count_yes.Goals as goal
 
-pub returns-then-block-lt-WORDS : goal.returns-then-block-lt-WORDS
-unfolding count_yes_block of_state
-returns-then-block-lt-WORDS c = simp (lt-leb _ _ c.if-block-lt-WORDS.true)
+pub returns-in_default : goal.returns-in_default
+unfolding count_yes_block
+returns-in_default c = no_state _ _ _ c.in_default.ensures
 
 pub returns : goal.returns
-unfolding count_yes_block of_state
-returns c = rw (le-leb _ _ c.if-block-lt-WORDS.false) (c.count_yes.ensures _ _)
+unfolding count_yes_block
+returns c = state_shown _ _ _ _ c.in-Some.ensures c.count_yes.ensures

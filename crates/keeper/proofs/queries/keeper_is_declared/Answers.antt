@@ -1,14 +1,13 @@
--- `keeper::queries::keeper_is_declared` meets its contract, by a part of the block.
+-- `keeper::queries::keeper_is_declared` meets its contract: it shows the state that the block holds.
 -- Assumes nothing.
-use borrow.Author.Tests.{lt-leb, le-leb}
-use Rattle.keeper.specs.Block.{of_state}
 use Rattle.keeper.specs.Exports.{declared_block}
+use Rattle.keeper.proofs.Shown.{no_state, state_shown}
 use Rattle.keeper.proofs.queries.keeper_is_declared.Goals as goal
 
-pub returns-then-block-lt-WORDS : goal.returns-then-block-lt-WORDS
-unfolding declared_block of_state
-returns-then-block-lt-WORDS c = simp (lt-leb _ _ c.if-block-lt-WORDS.true)
+pub returns-in_default : goal.returns-in_default
+unfolding declared_block
+returns-in_default c = no_state _ _ _ c.in_default.ensures
 
 pub returns : goal.returns
-unfolding declared_block of_state
-returns c = rw (le-leb _ _ c.if-block-lt-WORDS.false) c.is_declared.ensures
+unfolding declared_block
+returns c = state_shown _ _ _ _ c.in-Some.ensures c.is_declared.ensures

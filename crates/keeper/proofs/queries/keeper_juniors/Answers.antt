@@ -1,16 +1,15 @@
--- `keeper::queries::keeper_juniors` meets its contract, by a part of the block.
+-- `keeper::queries::keeper_juniors` meets its contract: it shows the state that the block holds.
 -- Assumes nothing.
-use borrow.Author.Tests.{lt-leb, le-leb}
 use Rattle.graph.specs.Graph.{ordinary, present, effective}
 use Rattle.graph.specs.Drawing.{below, edge, juniors}
-use Rattle.keeper.specs.Block.{of_state}
 use Rattle.keeper.specs.Exports.{juniors_block}
+use Rattle.keeper.proofs.Shown.{no_state, state_shown}
 use Rattle.keeper.proofs.queries.keeper_juniors.Goals as goal
 
-pub returns-then-block-lt-WORDS : goal.returns-then-block-lt-WORDS
-unfolding juniors_block of_state
-returns-then-block-lt-WORDS c = simp (lt-leb _ _ c.if-block-lt-WORDS.true)
+pub returns-in_default : goal.returns-in_default
+unfolding juniors_block
+returns-in_default c = no_state _ _ _ c.in_default.ensures
 
 pub returns : goal.returns
-unfolding juniors_block of_state juniors edge below ordinary present effective
-returns c = rw (le-leb _ _ c.if-block-lt-WORDS.false) c.juniors_of.ensures
+unfolding juniors_block juniors edge below ordinary present effective
+returns c = state_shown _ _ _ _ c.in-Some.ensures c.juniors_of.ensures

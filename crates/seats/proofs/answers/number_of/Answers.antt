@@ -1,17 +1,23 @@
--- `answers::number_of` meets its contract: each arm is the case of its answer.
+-- `seats::answers::number_of` meets its contract: a refusal has its number, and any other answer 0.
 -- Assumes nothing.
+use mathlib.Core.Path.{◌≡◌, refl}
+use Rattle.std.specs.Prelude.{Ok}
 use Rattle.seats.specs.Tape.{answer_number}
 use Rattle.seats.specs.Reading.{read_answer}
+use Rattle.seats.specs.declared.Reply.{Reply}
+use Rattle.seats.specs.declared.Reply.TheVariants.{Accepted, Answered}
 use Rattle.seats.proofs.answers.number_of.Goals as goal
 
-pub returns-in-Accepted : goal.returns-in-Accepted
+-- What is not refused has the number 0.
+none : (r : Reply) → 0 ≡ answer_number (read_answer (Ok r))
 unfolding read_answer answer_number
-returns-in-Accepted c = rw c.in-Accepted.is
+none Accepted = refl
+none (Answered b) = refl
 
-pub returns-in-Answered : goal.returns-in-Answered
+pub returns-in-Ok : goal.returns-in-Ok
 unfolding read_answer answer_number
-returns-in-Answered c = rw c.in-Answered.is
+returns-in-Ok c = rw c.in-Ok.is (none c.in-Ok.field-0)
 
-pub returns-in-Refused : goal.returns-in-Refused
+pub returns-in-Err : goal.returns-in-Err
 unfolding read_answer answer_number
-returns-in-Refused c = rw c.in-Refused.is
+returns-in-Err c = rw c.in-Err.is c.number.ensures

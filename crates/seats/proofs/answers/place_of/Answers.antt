@@ -1,21 +1,12 @@
--- `answers::place_of` meets its contract: each arm is the case of its answer.
+-- `seats::answers::place_of` meets its contract: a refusal has its place, and a reply its own.
 -- Assumes nothing.
 use Rattle.seats.specs.Tape.{answer_place}
 use Rattle.seats.specs.Reading.{read_answer}
 use Rattle.seats.proofs.answers.place_of.Goals as goal
 
-pub returns-in-Accepted : goal.returns-in-Accepted
-unfolding read_answer answer_place
-returns-in-Accepted c = rw c.in-Accepted.is
+pub returns-in-Ok : goal.returns-in-Ok
+returns-in-Ok c = rw c.in-Ok.is c.place_of_reply.ensures
 
-pub returns-then-held : goal.returns-then-held
+pub returns-in-Err : goal.returns-in-Err
 unfolding read_answer answer_place
-returns-then-held c = rw (c.in-Answered.is, c.if-held.true)
-
-pub returns-else-held : goal.returns-else-held
-unfolding read_answer answer_place
-returns-else-held c = rw (c.in-Answered.is, c.if-held.false)
-
-pub returns-in-Refused : goal.returns-in-Refused
-unfolding read_answer answer_place
-returns-in-Refused c = rw c.in-Refused.is
+returns-in-Err c = rw c.in-Err.is

@@ -1,10 +1,11 @@
 -- `seats::loading::read_entries` meets its contract: each turn tests the first entry left and stores it, and the others are left.
 -- Assumes nothing.
 use borrow.Author.Rules.{rules}
+use native.Mathlib.Omega.{arith}
 use borrow.Author.Tests.{lt-leb, le-leb}
 use mathlib.Core.Path.{◌≡◌, refl, sym, ap, ◌∙◌}
 use mathlib.Core.List.{◌∷◌}
-use Prim.Native.Nat.{◌/◌}
+use Prim.Native.Nat.{◌+◌, ◌/◌}
 use lib.ListN.{length, get_or}
 use Rattle.std.specs.Slice.Iter.{chunks_exact_rest}
 use Rattle.sets.specs.Sets.{union}
@@ -12,6 +13,7 @@ use Rattle.sets.proofs.Laws.{known_single}
 use Rattle.seats.specs.Images.{entries_at}
 use Rattle.seats.specs.ImageWork.{value_bytes, part_width, entry_of}
 use Rattle.seats.proofs.EntryReading.{part_all, part_next, part_refused, part_done, passing_key}
+use Rattle.seats.proofs.Numbers.{number_sliced}
 use Rattle.seats.proofs.EntrySlices.{slice_first, slice_none}
 use Rattle.seats.proofs.loading.read_entries.Given.{Over}
 use Rattle.seats.proofs.loading.read_entries.Goals as goal
@@ -32,7 +34,11 @@ here : (g : Over) (c : After-place-place g) → (
     ≡ entry_of (get_or c.in-Some.entry.now 0 0) c.number-value.result ∷ entries_at n 0 (length rest / part_width g.P.Part.part) rest)
 here g c =
     let b = c.in-Some.ensures.steps.1 in
-    rw (b.0, c.number-value.ensures.0, c.value_bytes-value_bytes.ensures.0) (slice_first (value_bytes g.P.Part.part) c.in-Some.entry.now _ (b.1 ∙ c.loop-entry.invariant.0))
+    let n = value_bytes g.P.Part.part in
+    let x = c.in-Some.entry.now in
+    let w : length x ≡ 1 + n = b.1 ∙ c.loop-entry.invariant.0 in
+    let v = c.number-value.ensures.0 ∙ number_sliced n 1 x (omega arith) (omega arith) in
+    rw (b.0, v) (slice_first n x _ w)
 
 pub returns-then-place-low : goal.returns-then-place-low
 returns-then-place-low g c =

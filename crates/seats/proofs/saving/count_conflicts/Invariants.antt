@@ -1,5 +1,5 @@
 use mathlib.Core.Path.{◌≡◌}
-use Prim.Native.Nat.{◌+◌, ◌-◌, ◌≤◌}
+use Prim.Native.Nat.{◌+◌, ◌≤◌}
 use lib.ListN.{length}
 use Rattle.graph.specs.Graph.{privilege_count}
 use Rattle.graph.specs.Reading.{sets_in}
@@ -9,6 +9,3 @@ use Rattle.seats.proofs.saving.count_conflicts.Given as goal
 
 abbrev pub invariant-loop-lower : goal.invariant-loop-lower
 invariant-loop-lower l = (l.lower ≤ privilege_count) × (l.n + length (rows_from (sets_in l.conflicts) l.lower) ≡ length (pair_entries (sets_in l.conflicts)))
-
-abbrev pub decreases-loop-lower : goal.decreases-loop-lower
-decreases-loop-lower l = privilege_count - l.lower

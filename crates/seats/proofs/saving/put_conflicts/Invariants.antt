@@ -1,6 +1,6 @@
 use Rattle.graph.specs.Graph.{privilege_count}
 use Rattle.graph.specs.Reading.{sets_in}
-use Prim.Native.Nat.{◌-◌, ◌≤◌}
+use Prim.Native.Nat.{◌≤◌}
 use Rattle.seats.specs.Images.{privilege_bytes, entry_bytes}
 use Rattle.seats.specs.ImageWork.{pair_entries}
 use Rattle.seats.proofs.Written.{Unwritten}
@@ -8,7 +8,4 @@ use Rattle.seats.proofs.MemberEntries.{rows_from}
 use Rattle.seats.proofs.saving.put_conflicts.Given as goal
 
 abbrev pub invariant-loop-lower : goal.invariant-loop-lower
-invariant-loop-lower l = (l.lower ≤ privilege_count) × Unwritten l.initial.buffer l.at (entry_bytes privilege_bytes (pair_entries (sets_in l.conflicts))) l.buffer l.place (entry_bytes privilege_bytes (rows_from (sets_in l.conflicts) l.lower))
-
-abbrev pub decreases-loop-lower : goal.decreases-loop-lower
-decreases-loop-lower l = privilege_count - l.lower
+invariant-loop-lower l = (l.lower ≤ privilege_count) × Unwritten l.initial.buffer 0 (entry_bytes privilege_bytes (pair_entries (sets_in l.conflicts))) l.buffer l.n (entry_bytes privilege_bytes (rows_from (sets_in l.conflicts) l.lower))

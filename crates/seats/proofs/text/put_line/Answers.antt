@@ -2,11 +2,12 @@
 -- Assumes nothing.
 use borrow.Author.Tests.{leb-true, leb-false}
 use borrow.Author.Rules.{rules}
+use native.Mathlib.Omega.{arith}
 use mathlib.Core.Path.{◌≡◌, sym, ◌∙◌}
 use Rattle.seats.specs.Reading.{read_answer}
 use Rattle.seats.specs.Tape.{answer_number, answer_place}
-use Rattle.seats.proofs.Written.{and_then}
-use Rattle.seats.proofs.Lines.{line_left_out, line_put}
+use Rattle.seats.proofs.Written.{and_then, behind}
+use Rattle.seats.proofs.Lines.{length-tail, line_left_out, line_put}
 use Rattle.seats.proofs.text.put_line.Goals as goal
 use Rattle.seats.proofs.text.put_line.Goals.{After-from-p}
 
@@ -22,4 +23,6 @@ returns-then-not-has_room c =
 pub returns : goal.returns
 returns c =
     let (x, y) = number (goal.at.returns c).After-from-p in
-    line_put c.args.buffer.now c.args.index (read_answer c.args.answer) x y c.ranges.index.fits (search rules) (search rules) (leb-true _ _ (sym c.if-not-has_room.ensures)) (and_then c.put_digits-j.ensures c.tail.ensures)
+    let n = length-tail c.from-n.result c.from-p.result in
+    line_put c.args.buffer.now c.args.index (read_answer c.args.answer) x y c.ranges.index.fits (search rules) (search rules) (leb-true _ _ (sym c.if-not-has_room.ensures))
+    (and_then c.put_digits-j.ensures (behind (search (arith, leb-true _ _ (sym c.if-not-has_room.ensures))) c.tail.ensures))

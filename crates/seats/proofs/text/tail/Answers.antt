@@ -1,8 +1,9 @@
 -- `text::tail` meets its contract: it is the five texts that the code puts one behind the other.
 -- Assumes nothing.
-use Rattle.seats.proofs.Written.{and_then}
+use borrow.Author.Rules.{rules}
+use Rattle.seats.proofs.Written.{and_then, one_written, behind}
 use Rattle.seats.proofs.text.tail.Goals as goal
 
 pub returns : goal.returns
 returns c =
-    and_then c.put_byte-a.ensures (and_then c.put_digits-b.ensures (and_then c.put_byte-c.ensures (and_then c.put_digits-d.ensures c.put_byte.ensures)))
+    and_then (one_written _ _ _) (and_then (behind (search rules) c.put_digits-space.ensures) (and_then (one_written _ _ _) (and_then (behind (search rules) c.put_digits.ensures) (one_written _ _ _))))

@@ -12,5 +12,6 @@ use Rattle.sittings.proofs.clashing.clash_by.Goals as goal
 pub returns : goal.returns
 returns c =
     let g = c.args in
+    let o = g.offer.pair in
     c.lowest_clash.ensures
-    ∙ ap (λ (used : List ℕ). lowest_found role_count (λ p. meets_by g.lower.now used p (at (joined_at g.pairs.now g.offer.lower g.offer.higher) p))) c.all_reached-used.ensures
+    ∙ ap (λ (used : List ℕ). lowest_found role_count (λ p. meets_by g.lower.now used p (at (joined_at g.pairs.now o.at o.set) p))) c.all_reached-used.ensures

@@ -1,4 +1,4 @@
--- `sittings::following::pairs_left` meets its contract: only the removal of a role takes pairs.
+-- `sittings::following::pairs_left` meets its contract: kind 3 takes the pairs of its role, and the other kinds none.
 -- Assumes nothing.
 use mathlib.Core.List.{List}
 use mathlib.Core.Path.{◌≡◌, refl, sym, ap, ◌∙◌}
@@ -7,8 +7,8 @@ use Rattle.graph.specs.Tables.{at, table}
 use Rattle.graph.specs.Graph.{role_count}
 use Rattle.graph.specs.Reading.{read_change}
 use Rattle.graph.specs.declared.Change.TheVariants.{the_data, AddByPlace, AddByPrivileges, RemoveRole, Grant, Withdraw, AddEdge, RemoveEdge}
-use Rattle.graph.specs.declared.Role.{Role}
 use Rattle.graph.specs.declared.Removal.TheVariants as removal
+use Rattle.graph.specs.declared.Role.{Role}
 use Rattle.graph.proofs.Tables.{length-table}
 use Rattle.sittings.specs.Calls.{without_role, pairs_changed}
 use Rattle.sittings.proofs.FilledTables.{table_whole}

@@ -31,18 +31,18 @@ module _ (l : List ℕ) {r : Bool} (e : r ≡ names_none l) where
   unfolding own fields
   kinds t = sym (rw (sym e ∙ t))
 
-pub returns-then-not-names_no_set : goal.returns-then-not-names_no_set
+pub returns-else-names_no_set : goal.returns-else-names_no_set
 unfolding read_decoded
-returns-then-not-names_no_set c = misfits c.args.bytes.now c.names_no_set.ensures c.if-not-names_no_set.true
+returns-else-names_no_set c = misfits c.args.bytes.now c.names_no_set.ensures c.if-names_no_set.false
 
 pub bounds-bytes-0 : goal.bounds-bytes-0
-bounds-bytes-0 c = omega (arith, sized c.args.bytes.now c.names_no_set.ensures c.if-not-names_no_set.false)
+bounds-bytes-0 c = omega (arith, sized c.args.bytes.now c.names_no_set.ensures c.if-names_no_set.true)
 
 pub bounds-bytes-1 : goal.bounds-bytes-1
-bounds-bytes-1 c = omega (arith, sized c.args.bytes.now c.names_no_set.ensures c.if-not-names_no_set.false)
+bounds-bytes-1 c = omega (arith, sized c.args.bytes.now c.names_no_set.ensures c.if-names_no_set.true)
 
 pub bounds-bytes-2 : goal.bounds-bytes-2
-bounds-bytes-2 c = omega (arith, sized c.args.bytes.now c.names_no_set.ensures c.if-not-names_no_set.false)
+bounds-bytes-2 c = omega (arith, sized c.args.bytes.now c.names_no_set.ensures c.if-names_no_set.true)
 
-pub returns : goal.returns
-returns c = c.named.ensures ∙ kinds c.args.bytes.now c.names_no_set.ensures c.if-not-names_no_set.false
+pub returns-then-names_no_set : goal.returns-then-names_no_set
+returns-then-names_no_set c = c.named.ensures ∙ kinds c.args.bytes.now c.names_no_set.ensures c.if-names_no_set.true

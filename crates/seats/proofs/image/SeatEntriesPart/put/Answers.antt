@@ -5,4 +5,4 @@ use Rattle.seats.proofs.image.SeatEntriesPart.put.Goals as goal
 
 pub returns : goal.returns
 unfolding stored
-returns c present t = rw (c.store_roles.ensures, c.from.ensures)
+returns c present t = rw (c.store.ensures, c.from.ensures)

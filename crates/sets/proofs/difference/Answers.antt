@@ -1,9 +1,0 @@
--- `sets::difference` meets its contract: the code computes the definition.
--- Assumes nothing.
-use borrow.Author.Rules.{rules}
-use Rattle.sets.specs.Sets.{difference}
-use Rattle.sets.proofs.difference.Goals as goal
-
-pub returns : goal.returns
-unfolding difference
-returns c = search rules
