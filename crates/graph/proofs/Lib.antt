@@ -2,6 +2,7 @@
 pub mod Tables
 pub mod PrivilegeTables
 pub mod Loops
+pub mod Collecting
 pub mod ExchangeLoops
 -- ---- checks and verdicts
 pub mod Refusals
