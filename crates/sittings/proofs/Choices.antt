@@ -10,7 +10,8 @@ use lib.Dec.{ltb}
 use lib.ListN.{set}
 use Rattle.sets.specs.Sets.{single, union, when}
 use Rattle.graph.specs.Tables.{at, put}
-use Rattle.graph.specs.Graph.{Graph, role_count}
+use Rattle.graph.specs.Graph.{Graph, role_count, ordinary, present, effective}
+use Rattle.graph.specs.Drawing.{below}
 use Rattle.graph.specs.Refusing.{Check, refuse, passed, verdict, at_or_below, Passes}
 use Rattle.graph.specs.Refusing as refusing
 use Rattle.graph.specs.Searching.{Found, lowest_found}
@@ -21,9 +22,9 @@ use Rattle.graph.proofs.Refusals.{passed_passes, number_lt}
 use Rattle.graph.proofs.Judging.{refused_first, passed_first}
 use Rattle.seats.specs.Seats.{State}
 use Rattle.seats.specs.Calls.{refused, seat_role_checks}
-use Rattle.seats.specs.Reading.{read_refusal}
+use Rattle.seats.specs.Reading.{state_of, read_refusal}
 use Rattle.seats.proofs.JudgedCalls.{refused_call, passed_call}
-use Rattle.sittings.specs.Sittings.{Sitting, excluded, is_active, covered, clashing}
+use Rattle.sittings.specs.Sittings.{Sitting, excluded, is_active, reaches, covered, in_use, together, clashing}
 use Rattle.sittings.specs.Calls.{Call, exclude, activate, deactivate, pair_together, role_pair_checks, checks, after, reply, perform}
 use Rattle.sittings.specs.Reading.{sitting_of}
 use Rattle.sittings.specs.Working.{joined_at}
@@ -101,6 +102,14 @@ pair_numbers g a b e =
 -- What is found among the pairs and the active roles with what is offered.
 pub clash_found : (h : State) {P Q A B : List ℕ} {x : Found} → x ≡ lowest_found role_count (clashing (sitting_of h P A)) → P ≡ Q → A ≡ B → x ≡ lowest_found role_count (clashing (sitting_of h Q B))
 clash_found h e p a = e ∙ ap₂ (λ (P A : List ℕ). lowest_found role_count (clashing (sitting_of h P A))) p a
+
+-- What a search for a pair that is together finds does not depend on the conflicts and the seats' roles.
+pub clash_alike : (roles : ℕ) (sets C W D V : List ℕ) {P Q A B : List ℕ} {x : Found}
+    → x ≡ lowest_found role_count (clashing (sitting_of (state_of roles sets D V) P A)) → P ≡ Q → A ≡ B
+    → x ≡ lowest_found role_count (clashing (sitting_of (state_of roles sets C W) Q B))
+unfolding clashing together in_use reaches at_or_below below present ordinary effective
+clash_alike roles sets C W D V e p a =
+    e ∙ ap₂ (λ (P A : List ℕ). lowest_found role_count (clashing (sitting_of (state_of roles sets C W) P A))) p a
 
 -- Member b put into entry a, as the code has the two numbers.
 module _ (l : List ℕ) {a b : ℕ} (h : b < role_count) {n q : ℕ} (p : n ≡ a) (d : q ≡ b) where

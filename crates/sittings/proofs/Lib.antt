@@ -24,6 +24,7 @@ pub mod Reached
 pub mod ReachedPrivileges
 -- ---- what the code makes of a call
 pub mod Choices
+pub mod Independence
 pub mod FollowingTables
 pub mod Idle
 pub mod TakenCalls
