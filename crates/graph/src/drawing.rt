@@ -8,7 +8,7 @@ ghost use Rattle.graph.specs.Drawing.{below, edge, juniors, seniors, edge_count,
 ghost use Rattle.graph.specs.Reading.{read_set, sets_in, drawn};
 ghost use Rattle.graph.specs.Working.{less_juniors};
 
-use crate::table::{Table, entry, seniors_in, store, union_at, whole};
+use crate::table::{SetTable, Table, entry, seniors_in, store, union_at, whole};
 use crate::{END_ROLES, MAX_ROLE, MIN_ROLE, Privilege, PrivilegeSet, Role, RoleGraph};
 use sets::Set;
 
@@ -27,7 +27,7 @@ pub fn senior_roles(roles: u64) -> u64
 }
 
 // The direct sets of the roles in `all`, by a table of their immediate juniors; any other role keeps its set.
-pub(crate) fn direct_sets(all: u64, sets: &[u64], juniors: &Table) -> Table
+pub(crate) fn direct_sets(all: u64, sets: &[u64], juniors: &Table) -> SetTable
     ensures { sets_in result ≡ less_juniors all (sets_in sets.now) juniors.now }
 {
     let mut direct = whole::<PrivilegeSet>(sets);

@@ -10,7 +10,7 @@ ghost use Rattle.graph.specs.Reading.{read_set, sets_in, read_removal, read_chan
 ghost use Rattle.graph.specs.Laying.{Lies};
 
 use crate::drawing::senior_roles;
-use crate::table::{Table, entry, exchange, seniors_in};
+use crate::table::{SetTable, Table, entry, exchange, seniors_in};
 use crate::{Change, Privilege, PrivilegeSet, Removal, Role};
 use sets::Set;
 
@@ -18,7 +18,7 @@ use sets::Set;
 #[derive(Clone, Copy)]
 pub(crate) struct Laid {
     pub roles: u64,
-    pub directs: Table,
+    pub directs: SetTable,
     pub juniors: Table,
 }
 
@@ -33,14 +33,14 @@ fn hands_up(removal: Removal) -> bool
 }
 
 // Joins s to the direct set of each role of `to`.
-fn give(directs: &mut Table, to: u64, s: PrivilegeSet)
+fn give(directs: &mut SetTable, to: u64, s: PrivilegeSet)
     ensures { sets_in directs.new ≡ table role_count (λ r. union (at (sets_in directs.old) r) (when (member r to) (read_set s))) }
 {
     exchange(directs, to, PrivilegeSet::empty(), s);
 }
 
 // Takes s out of the direct set of each role of `from`.
-fn take(directs: &mut Table, from: u64, s: PrivilegeSet)
+fn take(directs: &mut SetTable, from: u64, s: PrivilegeSet)
     ensures { sets_in directs.new ≡ table role_count (λ r. difference (at (sets_in directs.old) r) (when (member r from) (read_set s))) }
 {
     exchange(directs, from, s, PrivilegeSet::empty());

@@ -6,8 +6,11 @@ ghost use Rattle.graph.specs.Tables as spec;
 
 use sets::Set;
 
-// The words of a table with a set for each role.
+// The words of a table with a set for each role: a set of roles, or one of either kind.
 pub(crate) type Table = [u64; 64];
+
+// The words of a table with a set of privileges for each role.
+pub(crate) type SetTable = [u64; 64];
 
 // A row of a table that is to be stored: its number and its set.
 #[derive(Clone, Copy)]
