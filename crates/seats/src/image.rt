@@ -1,11 +1,14 @@
 // What saving and loading share: an image's parts, widths, distance and counts.
 ghost use Rattle.std.specs.Prelude.{◌≡◌, true, [], ◌∷◌, ℕ, ◌^◌, ◌≤◌, ◌<◌, length};
+ghost use Rattle.seats.specs.Bytes.{bytes_of, number_at};
 ghost use Rattle.seats.specs.Images.{trailer_length, distance, counts_at};
 ghost use Rattle.seats.specs.Reading.{read_counts};
+ghost use Rattle.seats.specs.Written.{Written};
 ghost use Rattle.seats.specs.ImageWork.{Small, Part, Roles, Conflicts, Seats, value_bytes, entry_of, entry_place, entry_passes, table_in, store_entries, value_of};
 
 use crate::Counts;
-use crate::endian::number;
+use crate::endian::{number, set};
+use crate::writing::{put_number, put_set};
 use graph::table::{entry, store};
 use graph::{Privilege, PrivilegeSet};
 use sets::Set;
@@ -29,7 +32,7 @@ pub(crate) const TRAILER: usize = 8;
 
 pub(crate) const LEAST: usize = SET + TRAILER;
 
-// A part of an image that is entries, each of a key and a value: how they are told, and what is made of them in a table.
+// A part of an image that is entries, each of a key and a value: how they are read, told and written, and what is made of them in a table.
 pub(crate) trait Part {
     // The part of the definitions that it is.
     ghost part: { Part };
@@ -37,6 +40,16 @@ pub(crate) trait Part {
     // How many bytes the value of an entry takes.
     fn value_bytes() -> usize
         ensures { (result ≡ value_bytes part) × (result ≤ 8) };
+
+    // The value that the bytes of one hold.
+    fn value_in(bytes: &[u8]) -> u64
+        requires { length bytes.now ≡ value_bytes part }
+        ensures { (result ≡ number_at (value_bytes part) 0 bytes.now) × (result < 256 ^ value_bytes part) };
+
+    // The bytes of a value; gives how many they are.
+    fn put_value(buffer: &mut [u8], value: u64) -> usize
+        requires { value_bytes part ≤ length buffer.old }
+        ensures { Written buffer.old 0 (bytes_of (value_bytes part) value) buffer.new result × (result ≤ length buffer.old) };
 
     // The place of an entry in the order of the part.
     fn place(key: u8, value: u64) -> usize
@@ -70,6 +83,14 @@ impl Part for RoleEntries {
         SET
     }
 
+    fn value_in(bytes: &[u8]) -> u64 {
+        set(bytes).word()
+    }
+
+    fn put_value(buffer: &mut [u8], value: u64) -> usize {
+        put_set(buffer, PrivilegeSet { word: value })
+    }
+
     fn place(key: u8, _value: u64) -> usize {
         usize::from(key)
     }
@@ -94,6 +115,15 @@ impl Part for ConflictEntries {
     ghost part = { Conflicts };
 
     fn value_bytes() -> usize {
+        PRIVILEGE
+    }
+
+    fn value_in(bytes: &[u8]) -> u64 {
+        number(bytes)
+    }
+
+    fn put_value(buffer: &mut [u8], value: u64) -> usize {
+        put_number(buffer, PRIVILEGE, value);
         PRIVILEGE
     }
 
@@ -124,6 +154,15 @@ impl Part for SeatEntries {
     ghost part = { Seats };
 
     fn value_bytes() -> usize {
+        ROLE_SET
+    }
+
+    fn value_in(bytes: &[u8]) -> u64 {
+        number(bytes)
+    }
+
+    fn put_value(buffer: &mut [u8], value: u64) -> usize {
+        put_number(buffer, ROLE_SET, value);
         ROLE_SET
     }
 

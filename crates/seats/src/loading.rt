@@ -33,7 +33,7 @@ fn read_entries<P: Part>(entries: &[u8], present: u64, table: &mut [u64]) -> Opt
     let mut low = 0;
     for entry in entries.chunks_exact(1 + value_bytes) {
         let key = entry[0];
-        let value = number(&entry[1..]);
+        let value = P::value_in(&entry[1..]);
         let place = P::place(key, value);
         if place < low || !P::passes(key, value, present) {
             return None;

@@ -26,10 +26,8 @@ fn put_entry<P: Part>(buffer: &mut [u8], key: u8, value: u64) -> usize
     requires { part_width P.part ≤ length buffer.old }
     ensures { Written buffer.old 0 (key ∷ bytes_of (value_bytes P.part) value) buffer.new result × (result ≤ length buffer.old) }
 {
-    let n = P::value_bytes();
     buffer[0] = key;
-    put_number(&mut buffer[1..], n, value);
-    1 + n
+    1 + P::put_value(&mut buffer[1..], value)
 }
 
 // The entries of the keys in a part's table, ascending: the roles or the seats; gives how many bytes they have.

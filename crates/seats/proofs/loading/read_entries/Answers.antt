@@ -5,7 +5,7 @@ use native.Mathlib.Omega.{arith}
 use borrow.Author.Tests.{lt-leb, le-leb}
 use mathlib.Core.Path.{◌≡◌, refl, sym, ap, ◌∙◌}
 use mathlib.Core.List.{◌∷◌}
-use Prim.Native.Nat.{◌+◌, ◌/◌}
+use Prim.Native.Nat.{◌+◌, ◌-◌, ◌/◌}
 use lib.ListN.{length, get_or}
 use Rattle.std.specs.Slice.Iter.{chunks_exact_rest}
 use Rattle.sets.specs.Sets.{union}
@@ -13,7 +13,7 @@ use Rattle.sets.proofs.Laws.{known_single}
 use Rattle.seats.specs.Images.{entries_at}
 use Rattle.seats.specs.ImageWork.{value_bytes, part_width, entry_of}
 use Rattle.seats.proofs.EntryReading.{part_all, part_next, part_refused, part_done, passing_key}
-use Rattle.seats.proofs.Numbers.{number_sliced}
+use Rattle.seats.proofs.Numbers.{number_taken}
 use Rattle.seats.proofs.EntrySlices.{slice_first, slice_none}
 use Rattle.seats.proofs.loading.read_entries.Given.{Over}
 use Rattle.seats.proofs.loading.read_entries.Goals as goal
@@ -31,13 +31,14 @@ here : (g : Over) (c : After-place-place g) → (
     let left = chunks_exact_rest c.loop-entry.entry-iterator in
     let rest = chunks_exact_rest c.next.new.self in
     entries_at n 0 (length left / part_width g.P.Part.part) left
-    ≡ entry_of (get_or c.in-Some.entry.now 0 0) c.number-value.result ∷ entries_at n 0 (length rest / part_width g.P.Part.part) rest)
+    ≡ entry_of (get_or c.in-Some.entry.now 0 0) c.value_in-value.result ∷ entries_at n 0 (length rest / part_width g.P.Part.part) rest)
 here g c =
     let b = c.in-Some.ensures.steps.1 in
     let n = value_bytes g.P.Part.part in
     let x = c.in-Some.entry.now in
     let w : length x ≡ 1 + n = b.1 ∙ c.loop-entry.invariant.0 in
-    let v = c.number-value.ensures.0 ∙ number_sliced n 1 x (omega arith) (omega arith) in
+    let m : length x - 1 ≡ n = omega arith in
+    let v = c.value_in-value.ensures.0 ∙ rw m (number_taken n 1 x (omega arith)) in
     rw (b.0, v) (slice_first n x _ w)
 
 pub returns-then-place-low : goal.returns-then-place-low

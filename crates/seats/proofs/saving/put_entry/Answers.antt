@@ -10,7 +10,7 @@ use Rattle.seats.proofs.saving.put_entry.Goals as goal
 pub returns : goal.returns
 returns g c =
     let a = c.args in
-    let w = c.value_bytes-n.ensures.0 in
     let n = length-set a.buffer.now 0 a.key in
     let l = length-bytes_of (value_bytes g.P.Part.part) a.value in
-    (rw w (and_then (one_written _ _ _) (behind (omega arith) (rw w at c.put_number.ensures))), omega arith)
+    let w = c.put_value.ensures.0 in
+    (and_then (one_written _ _ _) (behind (omega arith) w), omega (arith, w.place))
