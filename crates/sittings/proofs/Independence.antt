@@ -1,21 +1,20 @@
 -- Which tables of a sitting its operations do not look at: whatever these hold, the question, a choice and what follows a call come to the same.
 -- Assumes nothing.
 use mathlib.Core.Path.{◌≡◌, refl, sym, ap, ◌∙◌}
-use mathlib.Core.Bool.{Bool}
-use mathlib.Core.List.{List, []}
+use mathlib.Core.List.{List}
 use Prim.Native.Nat.{ℕ}
 use Rattle.std.specs.Prelude.{Result, Ok, Err}
 use Rattle.lists.specs.Settling as settling
 use Rattle.graph.specs.Graph.{present, ordinary, effective}
 use Rattle.graph.specs.Drawing.{below}
-use Rattle.graph.specs.Refusing.{Check, Verdict, passed, refused, verdict, at_or_below}
+use Rattle.graph.specs.Refusing.{Verdict, passed, refused, at_or_below}
 use Rattle.graph.specs.declared.Refusal.{Refusal}
 use Rattle.seats.specs.Seats.{State}
-use Rattle.seats.specs.Calls.{Answer, accepted, answered, judged, settle}
+use Rattle.seats.specs.Calls.{Answer, judged, settle}
 use Rattle.seats.specs.Asks.{is_yes}
 use Rattle.seats.specs.Reading.{state_of}
 use Rattle.sittings.specs.Sittings.{Sitting, excluded, is_active, reaches, covered, in_use, still_covered, still_active, together, clashing, may_use_active}
-use Rattle.sittings.specs.Calls.{exclude, activate, deactivate, pair_together, checks, after, reply, perform, ask_active}
+use Rattle.sittings.specs.Calls.{pair_together, checks, after, reply, perform, ask_active}
 use Rattle.sittings.specs.Reading.{sitting_of, read_choice, read_chosen}
 use Rattle.sittings.specs.declared.Choice.{Choice}
 use Rattle.sittings.specs.declared.Choice.TheVariants as choices
