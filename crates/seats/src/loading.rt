@@ -125,19 +125,18 @@ fn read_state(bytes: &[u8], counts: Counts) -> Result<State, Refusal>
     requires { distance (read_counts counts) ≤ length bytes.now }
     ensures { read_image result ≡ image_verdict (load_contents (contents bytes.now 0 (read_counts counts))) }
 {
-    let mut sets = [0u64; 64];
-    let mut conflicts = [0u64; 64];
-    let mut seats = [0u64; 64];
-    let read = read_contents(bytes, counts, &mut sets, &mut conflicts, &mut seats);
+    let mut state = fresh();
+    let read = read_contents(
+        bytes,
+        counts,
+        &mut state.sets,
+        &mut state.conflicts,
+        &mut state.seats,
+    );
     let Some(roles) = read else {
         return Err(unplaced(Reason::BadEntry));
     };
-    let state = State {
-        roles,
-        sets,
-        conflicts,
-        seats,
-    };
+    state.roles = roles;
     if !is_sound(state.lent()) {
         return Err(unplaced(Reason::UnsoundImage));
     }

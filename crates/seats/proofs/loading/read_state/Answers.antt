@@ -1,10 +1,11 @@
 -- `seats::loading::read_state` meets its contract: the entries, then the state that they describe are tested, with one return each.
 -- Assumes nothing.
-use mathlib.Core.Path.{◌≡◌, refl, sym, ap, ◌∙◌}
+use mathlib.Core.Path.{◌≡◌, sym, ap, ◌∙◌}
 use mathlib.Core.Bool.{cond}
+use Rattle.graph.specs.Graph as graph
 use Rattle.graph.specs.Refusing.{passed, refused, verdict}
 use Rattle.graph.specs.Reading.{sets_in}
-use Rattle.seats.specs.Seats.{State}
+use Rattle.seats.specs.Seats.{State, fresh}
 use Rattle.seats.specs.Images.{content_checks}
 use Rattle.seats.specs.Reading.{state_of, read_image}
 use Rattle.seats.proofs.LoadChecks.{entries_refused, state_refused, state_loaded, read_refused, read_passed}
@@ -12,8 +13,15 @@ use Rattle.seats.proofs.loading.read_state.Goals as goal
 use Rattle.seats.proofs.loading.read_state.Goals.{After-is_sound}
 
 pub read_contents-read-requires : goal.read_contents-read-requires
-unfolding sets_in
-read_contents-read-requires c = record { counts_in_bounds = c.requires; empty_sets = refl; empty_conflicts = refl; empty_seats = refl }
+unfolding sets_in fresh graph.fresh
+read_contents-read-requires c =
+    let e = c.fresh-state.ensures in
+    record {
+      counts_in_bounds = c.requires;
+      empty_sets = ap (λ (s : State). s.graph.sets) e;
+      empty_conflicts = ap (λ (s : State). s.graph.conflicts) e;
+      empty_seats = ap (λ (s : State). s.seats) e;
+    }
 
 pub returns-in_default : goal.returns-in_default
 unfolding read_image
