@@ -1,7 +1,7 @@
 -- What an attempted change comes to, taken apart: its verdict before closing, and the roles and sets after it.
 -- Assumes nothing.
 use mathlib.Core.Path.{◌≡◌, refl, sym, ap, ◌∙◌}
-use mathlib.Core.List.{List, ◌++◌}
+use mathlib.Core.List.{List, [], ◌++◌}
 use Prim.Native.Nat.{ℕ}
 use Rattle.std.specs.Prelude.{Result, Ok, Err}
 use Rattle.graph.specs.Graph.{Graph, ordinary, present, effective}
@@ -19,6 +19,15 @@ keep-verdict passed g h = refl
 keep-verdict (refused n p) g h = refl
 
 -- ---- the conflicts do not matter before 29
+-- The graph without its conflicts.
+abbrev pub bare : Graph → Graph
+bare g = record { roles = g.roles; sets = g.sets; conflicts = [] }
+
+-- A change leaves the conflicts, and what it makes of the roles and the sets does not depend on them.
+pub changed_bare : (g : Graph) (c : Change) → record { roles = (changed (bare g) c).roles; sets = (changed (bare g) c).sets; conflicts = g.conflicts } ≡ changed g c
+unfolding changed redraw present ordinary effective below edge direct
+changed_bare g c = refl
+
 module _ (roles : ℕ) (sets C : List ℕ) where
   -- The graph of these roles and sets.
   abbrev G : Graph

@@ -3,44 +3,48 @@ ghost use Rattle.std.specs.Prelude.{◌≡◌};
 ghost use Rattle.graph.specs.Drawing.{Drawing};
 ghost use Rattle.graph.specs.Closing.{close};
 ghost use Rattle.graph.specs.Editing.{changed};
-ghost use Rattle.graph.specs.Refusing.{passed, early, keep};
+ghost use Rattle.graph.specs.Refusing.{early, keep};
 ghost use Rattle.graph.specs.Reading.{sets_in, drawn, drawn_from, read_attempt, read_change};
 ghost use Rattle.graph.specs.Laying.{Lies};
 
 use crate::editing::Laid;
-use crate::table::Table;
-use crate::{Change, Redrawn, Refusal, RoleGraph, close, drawing, refusing};
+use crate::table::SetTable;
+use crate::{Change, Judged, Redrawn, Refusal, RoleGraph, close, drawing, refusing};
 use sets::Set;
 
 // The effective sets of a drawing: every ordinary role counts as a junior of MaxRole, then closing.
-fn closed(laid: &Laid) -> Table
-    requires { (d : Drawing) × Lies d laid.now }
-    ensures { (d : Drawing) → Lies d laid.now → sets_in result ≡ close d }
+fn closed(laid: &mut Laid) -> SetTable
+    requires { (d : Drawing) × Lies d laid.old }
+    ensures { (d : Drawing) → Lies d laid.old → sets_in result ≡ close d }
 {
     let ordinary = drawing::ordinary_roles(laid.roles);
-    let mut counted = laid.juniors;
+    let counted = &mut laid.juniors;
     counted[1] = counted[1].union(ordinary);
     let seniors = drawing::senior_roles(laid.roles);
-    close::close(seniors, &laid.directs, &counted)
+    close::close(seniors, &laid.directs, &laid.juniors)
 }
 
-// The change carried out, where the checks before closing passed.
-fn carry_out(graph: RoleGraph, change: Change) -> Redrawn
-    requires { early (drawn graph) (read_change change) ≡ passed }
-    ensures { drawn_from result.roles result.sets ≡ changed (drawn graph.entry) (read_change change) }
-{
-    let juniors = graph.draw();
-    let directs = drawing::direct_sets(drawing::senior_roles(graph.roles), graph.sets, &juniors);
-    let mut laid = Laid {
-        roles: graph.roles,
-        directs,
-        juniors,
-    };
-    laid.edit(change);
-    let sets = closed(&laid);
-    Redrawn {
-        roles: laid.roles,
-        sets,
+impl<'a> Judged<'a> {
+    // The roles and the sets after the change.
+    pub fn carry_out(self) -> Redrawn
+        ensures { let j = self.entry in drawn_from result.roles result.sets ≡ changed (drawn j.graph) (read_change j.change) }
+    {
+        let graph = self.graph;
+        let juniors = graph.draw();
+        let directs = drawing::direct_sets(
+            drawing::senior_roles(graph.roles),
+            graph.sets,
+            &juniors,
+        );
+        let mut laid = Laid {
+            roles: graph.roles,
+            directs,
+            juniors,
+        };
+        laid.edit(self.change);
+        let roles = laid.roles;
+        let sets = closed(&mut laid);
+        Redrawn { roles, sets }
     }
 }
 
@@ -49,5 +53,5 @@ pub fn attempt(graph: RoleGraph, change: Change) -> Result<Redrawn, Refusal>
     ensures { let g = drawn graph.entry in let c = read_change change in read_attempt g result ≡ keep (early g c) g (changed g c) }
 {
     refusing::judge(graph, change)?;
-    Ok(carry_out(graph, change))
+    Ok(Judged { graph, change }.carry_out())
 }

@@ -7,7 +7,7 @@ ghost use Rattle.graph.specs.Closing.{gathered};
 ghost use Rattle.graph.specs.Reading.{read_set, sets_in};
 ghost use Rattle.graph.specs.Working.{Ending, Acyclic, closed_set, Memo};
 
-use crate::table::{Table, entry, store};
+use crate::table::{SetTable, Table, entry, store};
 use crate::{ALL_ROLES, PrivilegeSet};
 use sets::Set;
 
@@ -20,7 +20,7 @@ struct Gathered {
 
 // Puts the set of role r into its entry, unless that is done, and gives the roles that are done.
 #[cycle(close_role_gather)]
-fn close_role(directs: &Table, juniors: &Table, sets: &mut Table, done: u64, r: usize) -> u64
+fn close_role(directs: &SetTable, juniors: &Table, sets: &mut SetTable, done: u64, r: usize) -> u64
     requires is_role { r < role_count }
     requires ending { Ending juniors.now }
     requires memo { Memo (sets_in directs.now) juniors.now done (sets_in sets.old) }
@@ -40,7 +40,13 @@ fn close_role(directs: &Table, juniors: &Table, sets: &mut Table, done: u64, r: 
 
 // Does each junior of role r, and joins their sets.
 #[cycle(close_role_gather)]
-fn gather(directs: &Table, juniors: &Table, sets: &mut Table, before: u64, r: usize) -> Gathered
+fn gather(
+    directs: &SetTable,
+    juniors: &Table,
+    sets: &mut SetTable,
+    before: u64,
+    r: usize,
+) -> Gathered
     requires is_role { r < role_count }
     requires ending { Ending juniors.now }
     requires memo { Memo (sets_in directs.now) juniors.now before (sets_in sets.old) }
@@ -59,7 +65,7 @@ fn gather(directs: &Table, juniors: &Table, sets: &mut Table, before: u64, r: us
 }
 
 // The effective set of each role; a role that is not present has its direct privileges alone.
-pub(crate) fn close(present: u64, directs: &Table, juniors: &Table) -> Table
+pub(crate) fn close(present: u64, directs: &SetTable, juniors: &Table) -> SetTable
     requires { Acyclic present juniors.now }
     ensures { sets_in result ≡ table role_count (gathered (at (sets_in directs.now)) (λ t r. spec.member t (at juniors.now r)) role_count) }
 {

@@ -97,6 +97,8 @@ impl<'a> RoleGraph<'a> {
     }
 
     // By role number, the immediate juniors of each role: the roles below it that lie below none of these.
+    // Inlined, so that the table's length is known in its loops.
+    #[inline(always)]
     pub(crate) fn draw(self) -> [u64; 64]
         ensures { result ≡ table role_count (juniors (drawn self.entry)) }
     {

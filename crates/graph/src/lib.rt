@@ -5,6 +5,8 @@
 
 ghost use Rattle.std.specs.Prelude.{◌≡◌};
 ghost use Rattle.graph.specs.Reasons.{reason_number};
+ghost use Rattle.graph.specs.Refusing.{passed, early};
+ghost use Rattle.graph.specs.Reading.{drawn, read_change};
 
 use sets::Set;
 
@@ -168,6 +170,14 @@ pub enum Change {
 pub struct RoleGraph<'a> {
     pub roles: u64,
     pub sets: &'a [u64],
+}
+
+// A change of a lent graph that nothing refuses before closing.
+#[derive(Clone, Copy)]
+pub struct Judged<'a> {
+    pub graph: RoleGraph<'a>,
+    pub change: Change,
+    ghost passes: { early (drawn graph) (read_change change) ≡ passed },
 }
 
 // The roles and the sets after a change.

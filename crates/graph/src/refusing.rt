@@ -234,6 +234,8 @@ pub fn refuse(reason: Reason, place: u8) -> Verdict
 }
 
 // Refusals 27 to 29 of a graph after closing.
+// Inlined, so that the table's length is known in its loops.
+#[inline(always)]
 fn judge_sets(graph: RoleGraph, conflicts: &[u64]) -> Verdict
     ensures { read_verdict result ≡ verdict (closed_checks (graph_of graph.entry.roles graph.entry.sets.now conflicts.now)) }
 {

@@ -8,14 +8,17 @@ use native.Mathlib.Omega.{arith}
 use Rattle.graph.specs.Editing.{Change, add_by_place, add_by_privileges, remove_role, grant, withdraw, add_edge, remove_edge}
 use Rattle.graph.specs.Refusing.{Check, Verdict, passed, verdict, early, input_checks, at_or_below, state_checks, still_below, closed_checks}
 use Rattle.graph.specs.Refusing as refusing
-use Rattle.graph.specs.Reading.{read_verdict}
+use Rattle.graph.specs.Reading.{sets_in, drawn_from, read_verdict}
+use Rattle.graph.specs.Graph.{Graph}
+use Rattle.graph.specs.Editing.{changed}
+use Rattle.graph.proofs.Attempts.{bare, changed_bare, early_any}
 use Rattle.graph.specs.declared.Refusal.{Refusal}
 use Rattle.std.specs.Prelude.{Result, Ok, Err}
 use Rattle.graph.proofs.Refusals.{parts, passed_passes, verdict_passes}
 use Rattle.graph.proofs.Judging.{refused_first, passed_first}
 use Rattle.seats.specs.Seats.{State}
 use Rattle.lists.specs.Settling as settling
-use Rattle.seats.specs.Calls.{change, accepted, seat_checks, checks, after, judged, settle, perform, reply}
+use Rattle.seats.specs.Calls.{change, accepted, seat_checks, checks, after, judged, settle, perform, reply, with_graph}
 use Rattle.seats.specs.Reading.{read_refusal}
 use Rattle.seats.specs.Working.{removal_checks, after_checks}
 
@@ -111,3 +114,40 @@ module _ {w : Verdict} (s h : State) where
 pub early_refused : (s : State) (c : Change) {v : Result (Unit {0}) Refusal} → read_verdict v ≡ verdict (before_checks s c ++ seat_checks s c) → {r : Refusal} → v ≡ Err r → (read_refusal r, s) ≡ perform s (change c)
 unfolding perform reply
 early_refused s c e {r} d = settled_refused s (next s c) r (refused_first (before_checks s c ++ seat_checks s c) (after_checks (next s c) c) e d ∙ sym (in_parts s c))
+
+-- The state s with these roles and sets.
+abbrev pub redrawn : State → ℕ → List ℕ → State
+redrawn s r S = with_graph s (record { roles = r; sets = sets_in S; conflicts = s.graph.conflicts })
+
+-- What carries the change out leaves the state after it.
+pub carried_out : (s : State) (c : Change) (r : ℕ) (S : List ℕ) → drawn_from r S ≡ changed (bare s.graph) c → redrawn s r S ≡ next s c
+unfolding after
+carried_out s c r S e = ap (λ (g : Graph). with_graph s (record { roles = g.roles; sets = g.sets; conflicts = s.graph.conflicts })) e ∙ ap (with_graph s) (changed_bare s.graph c)
+
+-- Nothing refuses the change c early on the state s.
+module _ (s : State) (c : Change) (e : passed ≡ verdict (before_checks s c ++ seat_checks s c)) where
+  -- So nothing refuses it on the graph alone.
+  pub graph_passes : early (bare s.graph) c ≡ passed
+  unfolding early sets_in
+  graph_passes =
+      let l = before_checks s c in
+      early_any s.graph.roles s.graph.sets s.graph.conflicts c ∙ verdict_passes l (parts l (seat_checks s c) (passed_passes (l ++ seat_checks s c) (sym e))).0
+
+  -- These roles and sets are the graph after it, and v is what is judged of them on the state lent again.
+  module _ (r : ℕ) (S : List ℕ) (m : drawn_from r S ≡ changed (bare s.graph) c) (v : Result (Unit {0}) Refusal) (f : read_verdict v ≡ verdict (after_checks (redrawn s r S) c)) where
+    -- All checks come to what is judged after it.
+    last : read_verdict v ≡ verdict (checks s (change c) (next s c))
+    unfolding read_verdict
+    last =
+        f
+        ∙ ap (λ (z : State). verdict (after_checks z c)) (carried_out s c r S m)
+        ∙ sym (passed_first (before_checks s c ++ seat_checks s c) (after_checks (next s c) c) {v = Ok tt} e refl)
+        ∙ sym (in_parts s c)
+
+    pub after_refused : {r : Refusal} → v ≡ Err r → (read_refusal r, s) ≡ perform s (change c)
+    unfolding perform reply
+    after_refused {r} x = settled_refused s (next s c) r (sym (ap read_verdict x) ∙ last)
+
+    pub after_accepted : v ≡ Ok tt → (accepted, redrawn s r S) ≡ perform s (change c)
+    unfolding perform reply read_verdict
+    after_accepted x = settled_passed s (next s c) (sym (ap read_verdict x) ∙ last) (carried_out s c r S m)

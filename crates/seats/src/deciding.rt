@@ -3,7 +3,7 @@ ghost use Rattle.std.specs.Prelude.{◌≡◌, List, [], ◌++◌, ℕ};
 ghost use Rattle.graph.specs.Editing.{remove_role};
 ghost use Rattle.graph.specs.Refusing.{verdict, input_checks, state_checks};
 ghost use Rattle.graph.specs.Reading.{drawn_from, read_verdict, read_change};
-ghost use Rattle.seats.specs.Calls.{change, declare, lift, assign, unassign, accepted, seat_role_checks, seat_checks, after, settle, perform};
+ghost use Rattle.seats.specs.Calls.{change, declare, lift, assign, unassign, seat_role_checks, seat_checks, perform};
 ghost use Rattle.seats.specs.Working.{removal_checks, after_checks};
 ghost use Rattle.seats.specs.Reading.{state_of, lent, read_request, read_decision, read_changed};
 
@@ -12,7 +12,7 @@ use crate::{Decided, LentState, Request, Seat};
 use graph::refusing::refuse;
 use graph::table::{Row, entry};
 use graph::{
-    Change, Privilege, Reason, Redrawn, Refusal, Role, Verdict, changing, declaring, refusing,
+    Change, Judged, Privilege, Reason, Redrawn, Refusal, Role, Verdict, declaring, refusing,
 };
 use sets::Set;
 
@@ -131,14 +131,11 @@ impl<'a> LentState<'a> {
         Ok(())
     }
 
-    // A change of the graph, but for refusal 24: judged, carried out, and judged again.
-    fn try_change(self, edit: Change) -> Result<Redrawn, Refusal>
-        ensures { let s = lent self.entry in let c = read_change edit in let h = after s (change c) in read_changed s result ≡ settle (verdict ((input_checks c ++ state_checks s.graph c) ++ after_checks h c)) accepted s h }
+    // The refusals of a change that come after closing, by the roles and the sets that it leaves.
+    pub fn judge_redrawn(self, next: &Redrawn, edit: Change) -> Verdict
+        ensures { let h = state_of next.now.roles next.now.sets self.entry.conflicts.now self.entry.seats.now in read_verdict result ≡ verdict (after_checks h (read_change edit)) }
     {
-        let next = changing::attempt(self.graph, edit)?;
-        let left = LentState::of(next.roles, &next.sets, self.conflicts, self.seats);
-        left.judge_after(edit)?;
-        Ok(next)
+        LentState::of(next.roles, &next.sets, self.conflicts, self.seats).judge_after(edit)
     }
 
     // What refuses a change before the graph is drawn anew, if anything does; no table is made for it.
@@ -154,7 +151,13 @@ impl<'a> LentState<'a> {
     pub fn decide_change(self, edit: Change) -> Result<Redrawn, Refusal>
         ensures { let s = lent self.entry in read_changed s result ≡ perform s (change (read_change edit)) }
     {
-        judge_removal(self.graph.roles, self.seats, edit)?;
-        self.try_change(edit)
+        self.judge_early(edit)?;
+        let next = Judged {
+            graph: self.graph,
+            change: edit,
+        }
+        .carry_out();
+        self.judge_redrawn(&next, edit)?;
+        Ok(next)
     }
 }

@@ -1,14 +1,15 @@
 // The step: what a record of any bytes makes of a state. A call is decided on the state as it is lent, and what changes is stored.
-ghost use Rattle.std.specs.Prelude.{◌≡◌};
+ghost use Rattle.std.specs.Prelude.{◌≡◌, ◌++◌};
+ghost use Rattle.graph.specs.Refusing.{passed, verdict, input_checks, state_checks};
 ghost use Rattle.graph.specs.Reading.{read_change};
-ghost use Rattle.seats.specs.Calls.{change, perform};
+ghost use Rattle.seats.specs.Calls.{change, seat_checks, perform};
 ghost use Rattle.seats.specs.Records.{step};
 ghost use Rattle.seats.specs.Promises.{StepPromise};
 ghost use Rattle.seats.specs.Reading.{state_of, lent, read_state, read_answer, read_request};
 
 use crate::{Answer, Call, Decided, LentState, Reply, Request, State, Stepped, records};
 use graph::table::store;
-use graph::{Change, Reason, Refusal, RoleGraph};
+use graph::{Change, Judged, Reason, Refusal, RoleGraph};
 
 impl<'a> LentState<'a> {
     // The state of these roles and tables.
@@ -32,11 +33,18 @@ impl State {
         LentState::of(self.roles, &self.sets, &self.conflicts, &self.seats)
     }
 
-    // A change, decided whole: the roles and the sets become those after it, where it is accepted.
+    // A change that nothing refuses early, carried out and judged again: the roles and the sets become those after it, where it is accepted.
     fn redraw(&mut self, edit: Change) -> Answer
+        requires { let s = read_state self.old in let c = read_change edit in passed ≡ verdict ((input_checks c ++ state_checks s.graph c) ++ seat_checks s c) }
         ensures { (read_answer result, read_state self.new) ≡ perform (read_state self.old) (change (read_change edit)) }
     {
-        let next = self.lent().decide_change(edit)?;
+        let graph = self.lent().graph;
+        let next = Judged {
+            graph,
+            change: edit,
+        }
+        .carry_out();
+        self.lent().judge_redrawn(&next, edit)?;
         let sets = next.sets;
         self.roles = next.roles;
         self.sets = sets;

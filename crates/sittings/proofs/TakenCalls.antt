@@ -13,6 +13,7 @@ use Rattle.graph.specs.Graph.{role_count}
 use Rattle.graph.specs.Editing.{Change, add_by_place, add_by_privileges, remove_role, grant, withdraw, add_edge, remove_edge}
 use Rattle.graph.specs.Refusing.{Verdict, passed, verdict}
 use Rattle.graph.specs.Refusing as refusing
+use Rattle.graph.specs.Reading.{read_verdict}
 use Rattle.graph.specs.declared.Refusal.{Refusal}
 use Rattle.std.specs.Prelude.{Result, Ok, Err}
 use Rattle.graph.proofs.Tables.{length-table}
@@ -31,8 +32,7 @@ use Rattle.seats.proofs.JudgedCalls.{settle_refused, settle_passed}
 use Rattle.seats.proofs.Settling as base-settling
 use Rattle.sittings.specs.Sittings.{Sitting, still_active}
 use Rattle.sittings.specs.Calls.{call, pair_together, drawn_checks, without_role, pairs_changed, pairs_after, active_after, perform}
-use Rattle.sittings.specs.Reading.{sitting_of, read_followed}
-use Rattle.sittings.specs.declared.Followed.{Followed}
+use Rattle.sittings.specs.Reading.{sitting_of}
 use Rattle.sittings.specs.Working.{followed}
 use Rattle.sittings.proofs.Beside.{beside}
 use Rattle.sittings.proofs.FilledTables.{table_whole}
@@ -82,19 +82,19 @@ module _ (z : Sitting) (c : Change) where
         ∙ ap₂ (λ (P A : List ℕ). settle (verdict (pair_together (sitting_of h P A) ∷ [])) accepted z (sitting_of h P A)) (idle_pairs c k p) (idle_active h l q)
         ∙ settle_passed accepted z _ (idle_passes (sitting_of h z.pairs z.active) p))
 
-    module _ {v : Result Followed Refusal} (f : read_followed v ≡ verdict (pair_together left ∷ [])) where
+    module _ {v : Result (Unit {0}) Refusal} (f : read_verdict v ≡ verdict (pair_together left ∷ [])) where
       -- 35 refuses it.
       pub together_change : {r : Refusal} → v ≡ Err r → (read_refusal r, z) ≡ perform z (call (base.change c))
-      unfolding read_followed
-      together_change x = sym (judged_after ∙ settle_refused accepted z left (sym f ∙ ap read_followed x))
+      unfolding read_verdict
+      together_change x = sym (judged_after ∙ settle_refused accepted z left (sym f ∙ ap read_verdict x))
 
       -- Nothing refuses it, and all roles' pairs and all seats' active roles are stored.
-      pub apart_change : {n : Followed} → v ≡ Ok n → {P A : List ℕ} → P ≡ table role_count (at (pairs_changed c z.pairs)) → A ≡ still_active h z.active → length z.pairs ≡ role_count
+      pub apart_change : v ≡ Ok tt → {P A : List ℕ} → P ≡ table role_count (at (pairs_changed c z.pairs)) → A ≡ still_active h z.active → length z.pairs ≡ role_count
           → (accepted, sitting_of h P A) ≡ perform z (call (base.change c))
-      unfolding read_followed
+      unfolding read_verdict
       apart_change x p q k =
           ap₂ (λ (P A : List ℕ). (accepted, sitting_of h P A)) (p ∙ pairs_whole c _ k) q
-          ∙ sym (judged_after ∙ settle_passed accepted z left (sym f ∙ ap read_followed x))
+          ∙ sym (judged_after ∙ settle_passed accepted z left (sym f ∙ ap read_verdict x))
 
 -- ---- requests
 -- No request but kind 11 switches anything off.

@@ -1,7 +1,5 @@
 -- How the code's values are read as the paper's: sittings, calls, and what a call and a part of a tape come to.
 use Rattle.std.specs.Prelude.{List, ℕ, set, Option, Some, None, Result, Ok, Err}
-use Rattle.graph.specs.Refusing.{Verdict, passed, refused}
-use Rattle.graph.specs.Reasons.{reason_number}
 use Rattle.graph.specs.Reading.{read_change}
 use Rattle.graph.specs.declared.Refusal.{Refusal}
 use Rattle.seats.specs.Seats.{State}
@@ -21,7 +19,6 @@ use Rattle.sittings.specs.declared.Step.{Step}
 use Rattle.sittings.specs.declared.Call.TheVariants as calls
 use Rattle.sittings.specs.declared.Chosen as chosen-enum
 use Rattle.sittings.specs.declared.Chosen.TheVariants as chosen
-use Rattle.sittings.specs.declared.Followed as followed-struct
 use Rattle.sittings.specs.declared.Fed as fed-struct
 
 -- The sitting of this state, these pairs and these active roles.
@@ -58,11 +55,6 @@ unfoldable pub read_chosen : Sitting → Result chosen-enum.Chosen Refusal → A
 read_chosen z (Ok (chosen.Pairs e)) = (accepted, sitting_of z.state (set z.pairs e.at e.set) z.active)
 read_chosen z (Ok (chosen.Active e)) = (accepted, sitting_of z.state z.pairs (set z.active e.at e.set))
 read_chosen z (Err r) = (read_refusal r, z)
-
--- The verdict on what follows an accepted change.
-unfoldable pub read_followed : Result followed-struct.Followed Refusal → Verdict
-read_followed (Ok _) = passed
-read_followed (Err r) = refused (reason_number r.reason) r.place
 
 -- What feeding a part of a tape gives, with the buffer that it leaves.
 abbrev pub read_fed : fed-struct.Fed → List ℕ → (PartAnswer × List ℕ) × (ℕ × Sitting)

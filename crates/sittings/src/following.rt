@@ -1,5 +1,5 @@
 // What follows an accepted call of kinds 1 to 12: what is switched off, the pairs that go with a removed role, and refusal 35.
-ghost use Rattle.std.specs.Prelude.{◌≡◌, Bool, ◌&&◌, ℕ, [], ◌∷◌, IfOk};
+ghost use Rattle.std.specs.Prelude.{◌≡◌, Bool, ◌&&◌, ℕ, [], ◌∷◌};
 ghost use Rattle.graph.specs.Tables.{at, table};
 ghost use Rattle.graph.specs.Graph.{role_count};
 ghost use Rattle.graph.specs.Refusing.{refuse_lowest, verdict};
@@ -9,7 +9,7 @@ ghost use Rattle.seats.specs.Records.{all_empty};
 ghost use Rattle.seats.specs.Reading.{lent};
 ghost use Rattle.sittings.specs.Sittings.{still_covered, still_active};
 ghost use Rattle.sittings.specs.Calls.{without_role, pairs_changed, pair_together};
-ghost use Rattle.sittings.specs.Reading.{sitting_of, read_followed};
+ghost use Rattle.sittings.specs.Reading.{sitting_of};
 ghost use Rattle.sittings.specs.Working.{still_by};
 
 use crate::clashing::{Offer, all_empty, clash_by};
@@ -17,7 +17,7 @@ use crate::reaching::{reached, still_reached};
 use crate::{Followed, LentSitting};
 use graph::refusing::refuse;
 use graph::table::{Row, entry, whole};
-use graph::{Change, Reason, Refusal, Role, Verdict};
+use graph::{Change, Reason, Role, Verdict};
 use seats::Seat;
 use sets::Set;
 use std::array;
@@ -85,14 +85,19 @@ impl<'a> LentSitting<'a> {
         }
     }
 
-    // What follows an accepted change that leaves this state: the pairs and the active roles after it, or refusal 35.
-    pub fn follow(self, edit: Change) -> Result<Followed, Refusal>
-        ensures { let z = self.entry in let h = lent z.state in let P = pairs_changed (read_change edit) z.pairs.now in let A = still_active h z.active.now in (read_followed result ≡ verdict (pair_together (sitting_of h P A) ∷ [])) × IfOk result (λ f. (f.pairs ≡ table role_count (at P)) × (f.active ≡ A)) }
+    // What follows an accepted change that leaves this state: the pairs and the active roles after it, and whether 35 refuses it.
+    // The verdict stands beside the tables, since these are told of a refused change too.
+    pub fn follow(self, edit: Change) -> Followed
+        ensures { let z = self.entry in let h = lent z.state in let P = pairs_changed (read_change edit) z.pairs.now in let A = still_active h z.active.now in (result.pairs ≡ table role_count (at P)) × (result.active ≡ A) × (read_verdict result.verdict ≡ verdict (pair_together (sitting_of h P A) ∷ [])) }
     {
         let lower = self.state.graph.lowers();
         let pairs = pairs_left(self.pairs, edit);
         let active = still_active(&lower, self.state.seats, self.active);
-        judge_found(clash_by(&lower, &pairs, &active, Offer::none()))?;
-        Ok(Followed { pairs, active })
+        let pair = clash_by(&lower, &pairs, &active, Offer::none());
+        Followed {
+            verdict: judge_found(pair),
+            pairs,
+            active,
+        }
     }
 }

@@ -16,7 +16,7 @@ pub mod stepping;
 pub mod tape;
 
 use graph::table::Row;
-use graph::{Change, Role};
+use graph::{Change, Role, Verdict};
 use seats::{Answer, FeedError, LentState, Request, Seat, State};
 
 // What a keeper holds: the saved state; by role number the higher roles that it excludes; and by seat number the set of the seat's active roles.
@@ -64,9 +64,10 @@ pub enum Chosen {
     Active(Row<u64>),
 }
 
-// What follows an accepted change that 35 does not refuse: the pairs and the active roles after it.
+// What follows an accepted change: whether 35 refuses it, and the pairs and the active roles after it.
 #[derive(Clone, Copy)]
 pub struct Followed {
+    pub verdict: Verdict,
     pub pairs: [u64; 64],
     pub active: [u64; 64],
 }

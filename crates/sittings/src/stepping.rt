@@ -1,21 +1,22 @@
 // The step: what a record of any bytes makes of a sitting. A call is decided on the sitting as it is lent, and what changes is stored.
-ghost use Rattle.std.specs.Prelude.{◌≡◌, [], ◌∷◌, IfOk};
+ghost use Rattle.std.specs.Prelude.{◌≡◌, [], ◌∷◌, ◌++◌};
 ghost use Rattle.graph.specs.Tables.{at, table};
 ghost use Rattle.graph.specs.Graph.{role_count};
-ghost use Rattle.graph.specs.Refusing.{verdict};
-ghost use Rattle.graph.specs.Reading.{read_change};
-ghost use Rattle.seats.specs.Calls.{change};
+ghost use Rattle.graph.specs.Refusing.{passed, verdict, input_checks, state_checks};
+ghost use Rattle.graph.specs.Reading.{read_verdict, read_change};
+ghost use Rattle.seats.specs.Calls.{change, accepted, seat_checks};
+ghost use Rattle.seats.specs.Calls as base;
 ghost use Rattle.seats.specs.Reading as seats;
 ghost use Rattle.seats.specs.Reading.{state_of, read_state, read_answer, read_request};
 ghost use Rattle.sittings.specs.Sittings.{still_active};
 ghost use Rattle.sittings.specs.Calls.{call, pair_together, pairs_changed, active_after, perform};
 ghost use Rattle.sittings.specs.Records.{step};
 ghost use Rattle.sittings.specs.Promises.{StepPromise};
-ghost use Rattle.sittings.specs.Reading.{sitting_of, lent, read_sitting, read_choice, read_followed};
+ghost use Rattle.sittings.specs.Reading.{sitting_of, lent, read_sitting, read_choice};
 
 use crate::{Call, Choice, Chosen, Followed, LentSitting, Sitting, Stepped, records};
 use graph::table::store;
-use graph::{Change, Reason, Redrawn, Refusal};
+use graph::{Change, Judged, Reason, Redrawn, Refusal};
 use seats::{Answer, LentState, Reply, Request};
 
 impl<'a> LentSitting<'a> {
@@ -40,8 +41,8 @@ impl Sitting {
     }
 
     // What follows an accepted change that leaves these roles and sets.
-    fn follow(&self, next: Redrawn, edit: Change) -> Result<Followed, Refusal>
-        ensures { let z = self.now in let h = state_of next.roles next.sets z.state.conflicts z.state.seats in let P = pairs_changed (read_change edit) z.pairs in let A = still_active h z.active in (read_followed result ≡ verdict (pair_together (sitting_of h P A) ∷ [])) × IfOk result (λ f. (f.pairs ≡ table role_count (at P)) × (f.active ≡ A)) }
+    fn follow(&self, next: &Redrawn, edit: Change) -> Followed
+        ensures { let z = self.now in let h = state_of next.now.roles next.now.sets z.state.conflicts z.state.seats in let P = pairs_changed (read_change edit) z.pairs in let A = still_active h z.active in (result.pairs ≡ table role_count (at P)) × (result.active ≡ A) × (read_verdict result.verdict ≡ verdict (pair_together (sitting_of h P A) ∷ [])) }
     {
         let state = LentState::of(
             next.roles,
@@ -52,26 +53,40 @@ impl Sitting {
         LentSitting::of(state, &self.pairs, &self.active).follow(edit)
     }
 
-    // A change, decided whole: where it is accepted, the roles and the sets become those after it, and what follows is stored.
-    fn redraw(&mut self, edit: Change) -> Answer
+    // A change that the state accepts and that leaves these roles and sets: it is stored with what follows it, unless 35 refuses it.
+    fn put_change(&mut self, next: &Redrawn, edit: Change) -> Answer
+        requires { let s = self.old.state in (accepted, state_of next.now.roles next.now.sets s.conflicts s.seats) ≡ base.perform (read_state s) (change (read_change edit)) }
         ensures { (read_answer result, read_sitting self.new) ≡ perform (read_sitting self.old) (call (change (read_change edit))) }
     {
-        let next = self.state.lent().decide_change(edit)?;
         if self.lent().is_idle() {
-            let sets = next.sets;
             self.state.roles = next.roles;
-            self.state.sets = sets;
+            self.state.sets = next.sets;
             return Ok(Reply::Accepted);
         }
-        let followed = self.follow(next, edit)?;
-        let sets = next.sets;
+        let followed = self.follow(next, edit);
+        followed.verdict?;
         let pairs = followed.pairs;
         let active = followed.active;
         self.state.roles = next.roles;
-        self.state.sets = sets;
+        self.state.sets = next.sets;
         self.pairs = pairs;
         self.active = active;
         Ok(Reply::Accepted)
+    }
+
+    // A change that nothing refuses early, carried out and judged again: where it is accepted, it is put.
+    fn redraw(&mut self, edit: Change) -> Answer
+        requires { let s = read_state self.old.state in let c = read_change edit in passed ≡ verdict ((input_checks c ++ state_checks s.graph c) ++ seat_checks s c) }
+        ensures { (read_answer result, read_sitting self.new) ≡ perform (read_sitting self.old) (call (change (read_change edit))) }
+    {
+        let graph = self.state.lent().graph;
+        let next = Judged {
+            graph,
+            change: edit,
+        }
+        .carry_out();
+        self.state.lent().judge_redrawn(&next, edit)?;
+        self.put_change(&next, edit)
     }
 
     // A change. What is refused early is refused before any table is made.

@@ -17,9 +17,9 @@ returns-in_err-judge c =
     let same : c.from_residual.result ≡ Err c.in_err-judge.field-0.0 = search rules in
     ap (read_attempt g) same ∙ ap (λ (v : Verdict). keep v g (changed g (read_change a.change))) c.in_err-judge.ensures
 
-pub carry_out-requires : goal.carry_out-requires
+pub invariant_of-carry_out : goal.invariant_of-carry_out
 unfolding read_verdict
-carry_out-requires c = sym c.in_ok-judge.ensures
+invariant_of-carry_out c = record { passes = sym c.in_ok-judge.ensures }
 
 pub returns : goal.returns
 unfolding read_attempt read_verdict keep

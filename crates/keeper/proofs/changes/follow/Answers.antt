@@ -3,25 +3,24 @@
 use mathlib.Core.Path.{◌≡◌, subst}
 use mathlib.Core.List.{List, [], ◌∷◌}
 use Prim.Native.Nat.{ℕ}
-use Rattle.std.specs.Prelude.{Result, IfOk}
 use Rattle.graph.specs.Tables.{at, table}
 use Rattle.graph.specs.Graph.{role_count}
 use Rattle.graph.specs.Editing.{Change}
 use Rattle.graph.specs.Refusing.{verdict}
-use Rattle.graph.specs.Reading.{sets_in, read_change}
-use Rattle.graph.specs.declared.Refusal.{Refusal}
+use Rattle.graph.specs.Reading.{sets_in, read_verdict, read_change}
 use Rattle.seats.specs.Seats.{State}
 use Rattle.sittings.specs.Sittings.{Sitting, still_active}
 use Rattle.sittings.specs.Calls.{pair_together, pairs_changed}
-use Rattle.sittings.specs.Reading.{sitting_of, read_followed}
+use Rattle.sittings.specs.Reading.{sitting_of}
 use Rattle.sittings.specs.declared.Followed.{Followed}
 use Rattle.keeper.proofs.changes.follow.Goals as goal
 
 -- What follows the change c, which leaves the state h, by these pairs and active roles.
-abbrev Follows : Change → Result Followed Refusal → State → List ℕ → List ℕ → Type 0
-Follows c r h P A =
-    (read_followed r ≡ verdict (pair_together (sitting_of h (pairs_changed c P) (still_active h A)) ∷ []))
-    × IfOk r (λ f. (f.pairs ≡ table role_count (at (pairs_changed c P))) × (f.active ≡ still_active h A))
+abbrev Follows : Change → Followed → State → List ℕ → List ℕ → Type 0
+Follows c f h P A =
+    (f.pairs ≡ table role_count (at (pairs_changed c P)))
+    × (f.active ≡ still_active h A)
+    × (read_verdict f.verdict ≡ verdict (pair_together (sitting_of h (pairs_changed c P) (still_active h A)) ∷ []))
 
 -- The state with these roles and sets.
 abbrev redrawn : ℕ → List ℕ → State → State

@@ -36,7 +36,7 @@ returns-in_err-next c =
     let W = s.words.now in
     let p = err_from_is_err_and c.from_residual.result c.from_residual.ensures.1 in
     rw (p.1, p.2)
-    (leaves (refused _ _) (sitting_in W) (sym (words_own W c.told-words)) (together_change (sitting_in W) (read_change s.edit) c.requires c.follow.ensures.0 c.in_err-next.was))
+    (leaves (refused _ _) (sitting_in W) (sym (words_own W c.told-words)) (together_change (sitting_in W) (read_change s.edit) c.requires c.follow-next.ensures.2 c.in_err-next.was))
 
 -- ---- all is written
 pub returns : goal.returns
@@ -44,10 +44,9 @@ unfolding read_answer
 returns c =
     let s = c.args in
     let W = s.words.now in
-    let n = c.in_ok-next.next in
-    let f = c.in_ok-next.ensures in
+    let f = c.follow-next in
     let h = state_of s.roles s.sets.now (conflicts_of W) (seats_of W) in
     let x = sets_put (roles_put (has_own W c.told-words) s.roles) c.copy_from_slice-2.ensures.len c.copy_from_slice-2.ensures.after in
     let y = pairs_put x c.copy_from_slice-3.ensures.len c.copy_from_slice-3.ensures.after in
-    leaves accepted (sitting_of h n.pairs n.active) (has_words (active_put y c.copy_from_slice-4.ensures.len c.copy_from_slice-4.ensures.after))
-    (apart_change (sitting_in W) (read_change s.edit) c.requires c.follow.ensures.0 c.in_ok-next.was f.1.0 f.1.1 (block_sized W (omega arith)).pairs)
+    leaves accepted (sitting_of h f.result.pairs f.result.active) (has_words (active_put y c.copy_from_slice-4.ensures.len c.copy_from_slice-4.ensures.after))
+    (apart_change (sitting_in W) (read_change s.edit) c.requires f.ensures.2 c.in_ok-next.was f.ensures.0 f.ensures.1 (block_sized W (omega arith)).pairs)

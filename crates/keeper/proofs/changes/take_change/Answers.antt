@@ -4,7 +4,7 @@ use mathlib.Core.List.{◌++◌}
 use mathlib.Core.Path.{sym, ap, ◌∙◌}
 use Rattle.std.proofs.lemmas.Result.{err_from_is_err_and}
 use Rattle.graph.specs.Refusing.{verdict}
-use Rattle.graph.specs.Reading.{read_change}
+use Rattle.graph.specs.Reading.{read_change, read_verdict}
 use Rattle.seats.specs.Calls.{refused, seat_checks}
 use Rattle.seats.specs.Reading.{read_answer}
 use Rattle.seats.proofs.Changing.{before_checks, early_refused}
@@ -25,3 +25,9 @@ returns-in_err-judge_early c =
     (leaves (refused _ _) (sitting_in W) (sym (words_own W c.told-words))
     (change_refused (sitting_in W) d _
     (early_refused (state_in W) d (c.judge_early.ensures ∙ ap (λ (z : Sitting). verdict (before_checks z.state d ++ seat_checks z.state d)) c.lent.ensures) c.in_err-judge_early.was)))
+
+pub redraw-requires : goal.redraw-requires
+unfolding read_verdict
+redraw-requires c =
+    let d = read_change c.args.edit in
+    sym (ap read_verdict c.in_ok-judge_early.was) ∙ c.judge_early.ensures ∙ ap (λ (z : Sitting). verdict (before_checks z.state d ++ seat_checks z.state d)) c.lent.ensures

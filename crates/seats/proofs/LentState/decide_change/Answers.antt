@@ -1,29 +1,43 @@
--- `seats::LentState::decide_change` meets its contract: what refuses a removal comes first, and else the change is tried.
+-- `seats::LentState::decide_change` meets its contract: what refuses before closing comes first, then what refuses after it.
 -- Assumes nothing.
-use mathlib.Core.Path.{ap, ◌∙◌}
+use mathlib.Core.Path.{◌≡◌, sym, ap, ◌∙◌}
+use mathlib.Core.List.{◌++◌}
 use Rattle.std.proofs.lemmas.Result.{err_from_is_err_and}
-use Rattle.graph.specs.Reading.{read_change}
-use Rattle.graph.specs.Refusing.{Verdict}
-use Rattle.seats.specs.Calls.{accepted, settle, perform, reply}
+use Rattle.graph.specs.Refusing.{passed, verdict}
+use Rattle.graph.specs.Reading.{read_change, read_verdict}
+use Rattle.seats.specs.Calls.{seat_checks, with_graph}
 use Rattle.seats.specs.Reading.{lent, read_changed}
-use Rattle.seats.proofs.Changing.{next, removal_refused, checks_without, settled_refused}
+use Rattle.seats.proofs.Changing.{before_checks, early_refused, graph_passes, after_refused, after_accepted}
 use Rattle.seats.proofs.LentState.decide_change.Goals as goal
+use Rattle.seats.proofs.LentState.decide_change.Goals.{In_ok-judge_early}
 
-pub returns-in_err-judge_removal : goal.returns-in_err-judge_removal
-unfolding read_changed perform reply
-returns-in_err-judge_removal c =
-    let g = c.args.self in
-    let s = lent g in
-    let d = read_change c.args.edit in
+-- Nothing refuses the change early.
+passes : (k : In_ok-judge_early) → (
+    let s = lent k.args.self in
+    let d = read_change k.args.edit in
+    passed ≡ verdict (before_checks s d ++ seat_checks s d))
+unfolding read_verdict
+passes k = sym (ap read_verdict k.in_ok-judge_early.was) ∙ k.judge_early.ensures
+
+pub returns-in_err-judge_early : goal.returns-in_err-judge_early
+unfolding read_changed
+returns-in_err-judge_early c =
     let p = err_from_is_err_and c.from_residual.result c.from_residual.ensures.1 in
+    rw (p.1, p.2) (early_refused (lent c.args.self) (read_change c.args.edit) c.judge_early.ensures c.in_err-judge_early.was)
+
+pub invariant_of-carry_out : goal.invariant_of-carry_out
+invariant_of-carry_out c = record { passes = graph_passes (lent c.args.self) (read_change c.args.edit) (passes (goal.at.invariant_of-carry_out c).In_ok-judge_early) }
+
+pub returns-in_err-judge_redrawn : goal.returns-in_err-judge_redrawn
+unfolding read_changed with_graph
+returns-in_err-judge_redrawn c =
+    let e = passes (goal.at.returns-in_err-judge_redrawn c).In_ok-judge_early in
+    let p = err_from_is_err_and c.from_residual-in_err-judge_redrawn.result c.from_residual-in_err-judge_redrawn.ensures.1 in
     rw (p.1, p.2)
-    (settled_refused s (next s d) _ (removal_refused s d (c.judge_removal.ensures g.graph.sets.now g.conflicts.now) c.in_err-judge_removal.was))
+    (after_refused (lent c.args.self) (read_change c.args.edit) e _ _ c.carry_out-next.ensures _ c.judge_redrawn.ensures c.in_err-judge_redrawn.was)
 
 pub returns : goal.returns
-unfolding perform reply
+unfolding read_changed with_graph
 returns c =
-    let g = c.args.self in
-    let s = lent g in
-    let d = read_change c.args.edit in
-    c.try_change.ensures
-    ∙ ap (λ (v : Verdict). settle v accepted s (next s d)) (checks_without s d (c.judge_removal.ensures g.graph.sets.now g.conflicts.now) c.in_ok-judge_removal.was)
+    let e = passes (goal.at.returns c).In_ok-judge_early in
+    after_accepted (lent c.args.self) (read_change c.args.edit) e _ _ c.carry_out-next.ensures _ c.judge_redrawn.ensures c.in_ok-judge_redrawn.was

@@ -1,28 +1,49 @@
--- `seats::State::redraw` meets its contract: an accepted change is stored, and a refused one leaves the state.
+-- `seats::State::redraw` meets its contract: what is refused after closing leaves the state, and otherwise what is carried out is stored.
 -- Assumes nothing.
-use mathlib.Core.Path.{◌≡◌, sym, ap, ◌∙◌}
+use mathlib.Core.Path.{◌≡◌, sym, ap, ◌∙◌, subst}
 use Rattle.std.proofs.lemmas.Result.{err_from_is_err_and}
-use Rattle.graph.specs.Reading.{read_change}
+use Rattle.graph.specs.Editing.{changed}
+use Rattle.graph.specs.Refusing.{passed, verdict, early}
+use Rattle.graph.specs.Reading.{drawn_from, read_change, read_verdict}
+use Rattle.graph.proofs.Attempts.{bare}
 use Rattle.seats.specs.Seats.{State}
-use Rattle.seats.specs.Calls.{change, perform, with_graph}
-use Rattle.seats.specs.Reading.{read_state, read_answer, read_changed}
+use Rattle.seats.specs.Calls.{with_graph}
+use Rattle.seats.specs.Working.{after_checks}
+use Rattle.seats.specs.Reading.{read_state, read_answer}
+use Rattle.seats.proofs.Changing.{redrawn, graph_passes, after_refused, after_accepted}
 use Rattle.seats.proofs.State.redraw.Goals as goal
-use Rattle.seats.proofs.State.redraw.Goals.{After-decide_change}
+use Rattle.seats.proofs.State.redraw.Goals.{After-judge_redrawn}
 
--- What the change comes to on the state as it is lent, it comes to on the state.
-decided : (j : After-decide_change) → (
-    let s = read_state j.args.self.now in
-    read_changed s j.decide_change.result ≡ perform s (change (read_change j.args.edit)))
-decided j =
-    let q = j.lent.ensures in
-    sym (ap (λ (h : State). read_changed h j.decide_change.result) q) ∙ j.decide_change.ensures ∙ ap (λ (h : State). perform h (change (read_change j.args.edit))) q
+-- What is carried out on the graph as it is lent is the change of the state's graph.
+carried : (j : After-judge_redrawn) → (
+    let n = j.carry_out-next.result in
+    drawn_from n.roles n.sets ≡ changed (bare (read_state j.args.self.now).graph) (read_change j.args.edit))
+carried j = j.carry_out-next.ensures ∙ ap (λ (z : State). changed (bare z.graph) (read_change j.args.edit)) j.lent.ensures
 
-pub returns-in_err-next : goal.returns-in_err-next
-unfolding read_answer read_changed
-returns-in_err-next c =
+-- What is judged of it is judged on the state.
+judged : (j : After-judge_redrawn) → (
+    let n = j.carry_out-next.result in
+    let d = read_change j.args.edit in
+    read_verdict j.judge_redrawn.result ≡ verdict (after_checks (redrawn (read_state j.args.self.now) n.roles n.sets) d))
+unfolding with_graph
+judged j =
+    let n = j.carry_out-next.result in
+    j.judge_redrawn.ensures ∙ ap (λ (z : State). verdict (after_checks (redrawn z n.roles n.sets) (read_change j.args.edit))) j.lent-2.ensures
+
+pub invariant_of-carry_out : goal.invariant_of-carry_out
+invariant_of-carry_out c =
+    let d = read_change c.args.edit in
+    record { passes = subst (λ (z : State). early (bare z.graph) d ≡ passed) (sym c.lent.ensures) (graph_passes (read_state c.args.self.now) d c.requires) }
+
+pub returns-in_err-judge_redrawn : goal.returns-in_err-judge_redrawn
+unfolding read_answer
+returns-in_err-judge_redrawn c =
+    let j = (goal.at.returns-in_err-judge_redrawn c).After-judge_redrawn in
     let p = err_from_is_err_and c.from_residual.result c.from_residual.ensures.1 in
-    rw (p.1, p.2) (sym (ap (read_changed (read_state c.args.self.now)) c.in_err-next.was) ∙ decided (goal.at.returns-in_err-next c).After-decide_change)
+    rw (p.1, p.2) (after_refused (read_state c.args.self.now) (read_change c.args.edit) c.requires _ _ (carried j) _ (judged j) c.in_err-judge_redrawn.was)
 
 pub returns : goal.returns
-unfolding read_answer read_changed with_graph
-returns c = sym (ap (read_changed (read_state c.args.self.now)) c.in_ok-next.was) ∙ decided (goal.at.returns c).After-decide_change
+unfolding read_answer with_graph
+returns c =
+    let j = (goal.at.returns c).After-judge_redrawn in
+    after_accepted (read_state c.args.self.now) (read_change c.args.edit) c.requires _ _ (carried j) _ (judged j) c.in_ok-judge_redrawn.was

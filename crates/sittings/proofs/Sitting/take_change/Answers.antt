@@ -1,10 +1,10 @@
 -- `sittings::Sitting::take_change` meets its contract: what is refused early leaves the sitting.
 -- Assumes nothing.
 use mathlib.Core.List.{◌++◌}
-use mathlib.Core.Path.{ap, ◌∙◌}
+use mathlib.Core.Path.{sym, ap, ◌∙◌}
 use Rattle.std.proofs.lemmas.Result.{err_from_is_err_and}
 use Rattle.graph.specs.Refusing.{verdict}
-use Rattle.graph.specs.Reading.{read_change}
+use Rattle.graph.specs.Reading.{read_change, read_verdict}
 use Rattle.seats.specs.Seats.{State}
 use Rattle.seats.specs.Calls.{seat_checks}
 use Rattle.seats.specs.Reading.{read_state, read_answer}
@@ -22,3 +22,9 @@ returns-in_err-judge_early c =
     rw (p.1, p.2)
     (change_refused (read_sitting z) d _
     (early_refused (read_state z.state) d (c.judge_early.ensures ∙ ap (λ (s : State). verdict (before_checks s d ++ seat_checks s d)) c.lent.ensures) c.in_err-judge_early.was))
+
+pub redraw-requires : goal.redraw-requires
+unfolding read_verdict
+redraw-requires c =
+    let d = read_change c.args.edit in
+    sym (ap read_verdict c.in_ok-judge_early.was) ∙ c.judge_early.ensures ∙ ap (λ (s : State). verdict (before_checks s d ++ seat_checks s d)) c.lent.ensures
