@@ -1,16 +1,12 @@
 -- What a loop that collects roles keeps, where it goes over the members of a set by the set that is left: what is left to visit, and what was collected so far.
 -- Assumes nothing.
-use mathlib.Core.Path.{◌≡◌, refl, sym, ap, subst, ◌∙◌}
+use mathlib.Core.Path.{◌≡◌, refl, sym, subst}
 use mathlib.Core.Bool.{Bool, ◌&&◌}
 use mathlib.Core.Logic.{◌≢◌}
-use Prim.Native.Nat.{ℕ, ◌-◌, ◌<◌, ◌≤◌, ◌^◌}
-use native.Mathlib.Omega.{arith}
-use lib.Bits.{bit_and, and_le_r}
-use lib.Dec.{T, ltb, lt→ltb}
+use Prim.Native.Nat.{ℕ, ◌<◌, ◌^◌}
+use lib.Dec.{T}
 use lib.Pow.{pow_pos}
-use Rattle.sets.specs.Sets.{member, single, union, when, collect, lowest_member, without_lowest, lowest_alone}
-use Rattle.sets.proofs.Tests.{passes}
-use Rattle.sets.proofs.Halves.{before_without}
+use Rattle.sets.specs.Sets.{member, single, union, when, collect, lowest_member, without_lowest}
 use Rattle.sets.proofs.Laws.{union-lt, when-lt, single-lt}
 use Rattle.sets.proofs.Visited.{lowest_below, next_lt, next_within, Collected, collect_none, collect_next, collect_done}
 use Rattle.graph.specs.Graph.{role_count}
@@ -28,20 +24,6 @@ module _ {w all rest : ℕ} (l : Left w all rest) (some : rest ≢ 0) where
   -- The lowest member left is a place of a table.
   pub left_lowest : {n : ℕ} → n ≡ lowest_member w rest → n < w
   left_lowest e = subst (λ (i : ℕ). i < w) (sym e) (lowest_below w rest l.fits some)
-
-  -- What is left after it falls.
-  pub left_falls : {next : ℕ} → next ≡ without_lowest w rest → next < rest
-  left_falls {next} e =
-      let h : bit_and rest (rest - 1) ≤ rest - 1 = and_le_r rest (rest - 1) in
-      let g : bit_and rest (rest - 1) ≡ next = before_without w rest l.fits some ∙ sym e in
-      omega (arith, h, g, some)
-
-  -- The lowest member left, as a set.
-  pub left_alone : {one : ℕ} → one ≡ lowest_alone w rest → {n : ℕ} → n ≡ lowest_member w rest → one ≡ single n
-  unfolding lowest_alone when
-  left_alone e {n} p =
-      let m = lowest_member w rest in
-      e ∙ rw (passes (ltb m w) (lt→ltb m w (left_lowest refl))) (ap single (sym p))
 
   pub left_next : Left w all (without_lowest w rest)
   left_next = record { small = l.small; fits = next_lt w rest l.fits; within = λ n m. l.within n (next_within w rest n m) }

@@ -31,20 +31,17 @@ impl<'a> Judged<'a> {
     {
         let graph = self.graph;
         let juniors = graph.draw();
-        let directs = drawing::direct_sets(
-            drawing::senior_roles(graph.roles),
-            graph.sets,
-            &juniors,
-        );
+        let seniors = drawing::senior_roles(graph.roles);
         let mut laid = Laid {
             roles: graph.roles,
-            directs,
+            directs: drawing::direct_sets(seniors, graph.sets, &juniors),
             juniors,
         };
         laid.edit(self.change);
-        let roles = laid.roles;
-        let sets = closed(&mut laid);
-        Redrawn { roles, sets }
+        Redrawn {
+            roles: laid.roles,
+            sets: closed(&mut laid),
+        }
     }
 }
 

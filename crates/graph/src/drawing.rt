@@ -60,19 +60,13 @@ impl<'a> RoleGraph<'a> {
     }
 
     // The roles of `all` whose sets are strictly included in `top`.
-    // The loop goes by the set that is left, whose lowest member is put in as a set: a fold over `members` that puts it in by its number misses the bar of kinds 13 and 14.
     fn included_in(self, all: u64, top: PrivilegeSet) -> u64
         ensures { result ≡ collect role_count (λ r. member r all && strictly_included (at (sets_in self.entry.sets.now) r) (read_set top)) }
     {
-        let mut found = 0u64;
-        let mut rest = all;
-        while rest != 0 {
-            let held: PrivilegeSet = entry(self.sets, rest.lowest_member() as usize);
-            let on = held.strictly_included(top);
-            found = found.union(rest.lowest_alone().when(on));
-            rest = rest.without_lowest();
-        }
-        found
+        all.members().fold(0u64, |found, r| {
+            let on = self.effective_of(Role(r)).strictly_included(top);
+            found.union(u64::single(r as usize).when(on))
+        })
     }
 
     // The roles below s: none for MinRole and for a number that is no role's.

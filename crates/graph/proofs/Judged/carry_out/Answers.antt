@@ -14,12 +14,12 @@ use Rattle.graph.proofs.Judged.carry_out.Goals.{After-edit}
 
 -- After the edit the tables hold the edited drawing.
 held : (c : After-edit) → (let j = c.args.self in Lies (edit (read_change j.change) (redraw (drawn j.graph))) c.edit.new.self)
-held c = c.edit.ensures _ (drawn_holds (drawn c.args.self.graph) (search rules) c.senior_roles.ensures c.draw-juniors.ensures c.direct_sets-directs.ensures) c.args.self.passes
+held c = c.edit.ensures _ (drawn_holds (drawn c.args.self.graph) (search rules) c.senior_roles-seniors.ensures c.draw-juniors.ensures c.direct_sets.ensures) c.args.self.passes
 
-pub closed-sets-requires : goal.closed-sets-requires
-closed-sets-requires c = (_, held (goal.at.closed-sets-requires c).After-edit)
+pub closed-requires : goal.closed-requires
+closed-requires c = (_, held (goal.at.closed-requires c).After-edit)
 
 pub returns : goal.returns
 unfolding changed
 returns c =
-    let h = held (goal.at.returns c).After-edit in ap₂ (λ (r : ℕ) (s : List ℕ). record { roles = r; sets = s; conflicts = [] }) h.same_roles (c.closed-sets.ensures _ h)
+    let h = held (goal.at.returns c).After-edit in ap₂ (λ (r : ℕ) (s : List ℕ). record { roles = r; sets = s; conflicts = [] }) h.same_roles (c.closed.ensures _ h)
