@@ -45,8 +45,7 @@ module _ (roles : ℕ) (sets C : List ℕ) where
   early_any (remove_edge a b) = refl
 
   changed_any : (c : Change) → record { roles = (changed G c).roles; sets = (changed G c).sets; conflicts = sets_in C } ≡ changed (graph_of roles sets C) c
-  unfolding changed redraw present ordinary effective below edge direct
-  changed_any c = refl
+  changed_any = changed_bare (graph_of roles sets C)
 
   -- A change was attempted, and r is what came of it.
   module _ (c : Change) (r : Result Redrawn Refusal) (e : read_attempt G r ≡ keep (early G c) G (changed G c)) where

@@ -110,44 +110,58 @@ module _ {w : Verdict} (s h : State) where
   unfolding settle judged settling.settle
   settled_passed e p = ap (λ (k : State). (accepted, k)) p ∙ ap (λ (x : Verdict). settle x accepted s h) e
 
--- What the checks before closing refuse, the call does, and it leaves the state.
-pub early_refused : (s : State) (c : Change) {v : Result (Unit {0}) Refusal} → read_verdict v ≡ verdict (before_checks s c ++ seat_checks s c) → {r : Refusal} → v ≡ Err r → (read_refusal r, s) ≡ perform s (change c)
-unfolding perform reply
-early_refused s c e {r} d = settled_refused s (next s c) r (refused_first (before_checks s c ++ seat_checks s c) (after_checks (next s c) c) e d ∙ sym (in_parts s c))
-
 -- The state s with these roles and sets.
 abbrev pub redrawn : State → ℕ → List ℕ → State
-redrawn s r S = with_graph s (record { roles = r; sets = sets_in S; conflicts = s.graph.conflicts })
+redrawn s r S = record { graph = record { roles = r; sets = sets_in S; conflicts = s.graph.conflicts }; seats = s.seats }
 
--- What carries the change out leaves the state after it.
-pub carried_out : (s : State) (c : Change) (r : ℕ) (S : List ℕ) → drawn_from r S ≡ changed (bare s.graph) c → redrawn s r S ≡ next s c
-unfolding after
-carried_out s c r S e = ap (λ (g : Graph). with_graph s (record { roles = g.roles; sets = g.sets; conflicts = s.graph.conflicts })) e ∙ ap (with_graph s) (changed_bare s.graph c)
+-- The state s is lent as y, and the change c is judged and carried out on y.
+module _ {y s : State} (l : y ≡ s) (c : Change) where
+  -- What is judged of the change before closing is the same on both.
+  same_early : verdict (before_checks y c ++ seat_checks y c) ≡ verdict (before_checks s c ++ seat_checks s c)
+  same_early = ap (λ (z : State). verdict (before_checks z c ++ seat_checks z c)) l
 
--- Nothing refuses the change c early on the state s.
-module _ (s : State) (c : Change) (e : passed ≡ verdict (before_checks s c ++ seat_checks s c)) where
-  -- So nothing refuses it on the graph alone.
-  pub graph_passes : early (bare s.graph) c ≡ passed
-  unfolding early sets_in
-  graph_passes =
-      let l = before_checks s c in
-      early_any s.graph.roles s.graph.sets s.graph.conflicts c ∙ verdict_passes l (parts l (seat_checks s c) (passed_passes (l ++ seat_checks s c) (sym e))).0
-
-  -- These roles and sets are the graph after it, and v is what is judged of them on the state lent again.
-  module _ (r : ℕ) (S : List ℕ) (m : drawn_from r S ≡ changed (bare s.graph) c) (v : Result (Unit {0}) Refusal) (f : read_verdict v ≡ verdict (after_checks (redrawn s r S) c)) where
-    -- All checks come to what is judged after it.
-    last : read_verdict v ≡ verdict (checks s (change c) (next s c))
-    unfolding read_verdict
-    last =
-        f
-        ∙ ap (λ (z : State). verdict (after_checks z c)) (carried_out s c r S m)
-        ∙ sym (passed_first (before_checks s c ++ seat_checks s c) (after_checks (next s c) c) {v = Ok tt} e refl)
-        ∙ sym (in_parts s c)
-
-    pub after_refused : {r : Refusal} → v ≡ Err r → (read_refusal r, s) ≡ perform s (change c)
+  -- What the checks before closing refuse, the call does, and it leaves the state; what they pass on y passes on s.
+  module _ {v : Result (Unit {0}) Refusal} (e : read_verdict v ≡ verdict (before_checks y c ++ seat_checks y c)) where
+    pub early_refused : {r : Refusal} → v ≡ Err r → (read_refusal r, s) ≡ perform s (change c)
     unfolding perform reply
-    after_refused {r} x = settled_refused s (next s c) r (sym (ap read_verdict x) ∙ last)
+    early_refused {r} d =
+        settled_refused s (next s c) r (refused_first (before_checks s c ++ seat_checks s c) (after_checks (next s c) c) (e ∙ same_early) d ∙ sym (in_parts s c))
 
-    pub after_accepted : v ≡ Ok tt → (accepted, redrawn s r S) ≡ perform s (change c)
-    unfolding perform reply read_verdict
-    after_accepted x = settled_passed s (next s c) (sym (ap read_verdict x) ∙ last) (carried_out s c r S m)
+    pub early_passed : v ≡ Ok tt → passed ≡ verdict (before_checks s c ++ seat_checks s c)
+    unfolding read_verdict
+    early_passed d = sym (ap read_verdict d) ∙ e ∙ same_early
+
+  -- What carries the change out on y leaves the state after it.
+  pub carried_out : (r : ℕ) (S : List ℕ) → drawn_from r S ≡ changed (bare y.graph) c → redrawn s r S ≡ next s c
+  unfolding after with_graph
+  carried_out r S m =
+      ap (λ (g : Graph). with_graph s (record { roles = g.roles; sets = g.sets; conflicts = s.graph.conflicts })) (m ∙ ap (λ (z : State). changed (bare z.graph) c) l)
+      ∙ ap (with_graph s) (changed_bare s.graph c)
+
+  -- Nothing refuses the change early.
+  module _ (e : passed ≡ verdict (before_checks s c ++ seat_checks s c)) where
+    -- So nothing refuses it on the graph alone.
+    pub graph_passes : early (bare y.graph) c ≡ passed
+    unfolding early sets_in
+    graph_passes =
+        let b = before_checks y c in
+        early_any y.graph.roles y.graph.sets y.graph.conflicts c ∙ verdict_passes b (parts b (seat_checks y c) (passed_passes (b ++ seat_checks y c) (same_early ∙ sym e))).0
+
+    -- These roles and sets are the graph after it, and v is what is judged of them on x, which is s lent again.
+    module _ (r : ℕ) (S : List ℕ) (m : drawn_from r S ≡ changed (bare y.graph) c) {x : State} (k : x ≡ s) (v : Result (Unit {0}) Refusal) (f : read_verdict v ≡ verdict (after_checks (redrawn x r S) c)) where
+      -- All checks come to what is judged after it.
+      last : read_verdict v ≡ verdict (checks s (change c) (next s c))
+      unfolding read_verdict
+      last =
+          f
+          ∙ ap (λ (z : State). verdict (after_checks z c)) (ap (λ (z : State). redrawn z r S) k ∙ carried_out r S m)
+          ∙ sym (passed_first (before_checks s c ++ seat_checks s c) (after_checks (next s c) c) {v = Ok tt} e refl)
+          ∙ sym (in_parts s c)
+
+      pub after_refused : {i : Refusal} → v ≡ Err i → (read_refusal i, s) ≡ perform s (change c)
+      unfolding perform reply
+      after_refused {i} d = settled_refused s (next s c) i (sym (ap read_verdict d) ∙ last)
+
+      pub after_accepted : v ≡ Ok tt → (accepted, redrawn s r S) ≡ perform s (change c)
+      unfolding perform reply read_verdict
+      after_accepted d = settled_passed s (next s c) (sym (ap read_verdict d) ∙ last) (carried_out r S m)

@@ -7,8 +7,9 @@ use Rattle.graph.specs.Tables.{at, table}
 use Rattle.graph.specs.Graph.{role_count}
 use Rattle.graph.specs.Editing.{Change}
 use Rattle.graph.specs.Refusing.{verdict}
-use Rattle.graph.specs.Reading.{sets_in, read_verdict, read_change}
+use Rattle.graph.specs.Reading.{read_verdict, read_change}
 use Rattle.seats.specs.Seats.{State}
+use Rattle.seats.proofs.Changing.{redrawn}
 use Rattle.sittings.specs.Sittings.{Sitting, still_active}
 use Rattle.sittings.specs.Calls.{pair_together, pairs_changed}
 use Rattle.sittings.specs.Reading.{sitting_of}
@@ -22,14 +23,10 @@ Follows c f h P A =
     × (f.active ≡ still_active h A)
     × (read_verdict f.verdict ≡ verdict (pair_together (sitting_of h (pairs_changed c P) (still_active h A)) ∷ []))
 
--- The state with these roles and sets.
-abbrev redrawn : ℕ → List ℕ → State → State
-redrawn roles sets s = record { graph = record { roles = roles; sets = sets_in sets; conflicts = s.graph.conflicts }; seats = s.seats }
-
 pub returns : goal.returns
 returns c =
     let a = c.args in
     let e = read_change a.edit in
     let r = c.follow.result in
-    subst (λ (z : Sitting). Follows e r (redrawn a.roles a.sets.now z.state) z.pairs z.active) c.lent-sitting.ensures
+    subst (λ (z : Sitting). Follows e r (redrawn z.state a.roles a.sets.now) z.pairs z.active) c.lent-sitting.ensures
     (subst (λ (h : State). Follows e r h c.lent-sitting.result.pairs.now c.lent-sitting.result.active.now) c.of-state.ensures c.follow.ensures)
