@@ -1,10 +1,10 @@
 -- What fills a table: its own entries, what a closure gives for each number, and the members that two sets have in common.
 -- Assumes nothing.
-use mathlib.Core.Path.{◌≡◌, sym, ◌∙◌, subst}
+use mathlib.Core.Path.{◌≡◌, refl, sym, ◌∙◌, subst}
 use mathlib.Core.Bool.{◌&&◌}
 use mathlib.Core.List.{List}
 use Prim.Native.Nat.{ℕ, zero, suc, ◌+◌, ◌<◌, ◌≤◌, ◌^◌}
-use native.Mathlib.Decide.{ℕ_discrete}
+use native.Mathlib.Decide.{ℕ_discrete, dec_lt}
 use native.Mathlib.Omega.{arith}
 use denote.Param.Members.{Mut}
 use Rattle.std.specs.Fn.{Called}
@@ -14,11 +14,28 @@ use lib.ListN.{length, get_or}
 use Rattle.sets.specs.Sets.{member, intersection, collect}
 use Rattle.sets.proofs.Laws.{extensional, member-intersection, member-collect, intersection-lt, collect-lt}
 use Rattle.graph.specs.Tables.{at, table}
+use Rattle.graph.specs.Graph.{role_count}
 use Rattle.graph.proofs.Tables.{length-table, at-table, table_ext}
+use Rattle.graph.proofs.Loops.{Filled, filled_done}
 
 -- A table of n entries is the table of its entries.
 pub table_whole : (n : ℕ) (l : List ℕ) → length l ≡ n → table n (at l) ≡ l
 table_whole n l w = table_ext n (table n (at l)) l (length-table n (at l)) w (λ i h. at-table n i (at l) h)
+
+-- A table that is filled up to n and empty from there on, where what fills it is empty there too.
+pub filled_rest : {f : ℕ → ℕ} {n : ℕ} {l : List ℕ} → Filled f n l → ((j : ℕ) → n ≤ j → at l j ≡ 0) → ((j : ℕ) → n ≤ j → j < role_count → f j ≡ 0) → l ≡ table role_count f
+filled_rest {f} {n} {l} c rest none =
+    let all : Filled f role_count l =
+    record {
+      within = omega arith;
+      whole = c.whole;
+      got =
+          λ j h. elim (dec_lt j n) [
+            | yes k ↦ c.got j k
+            | no d ↦ rest j (omega (arith, d)) ∙ sym (none j (omega (arith, d)) h)
+          ];
+    }
+    in filled_done all refl
 
 -- What two sets have in common, collected.
 pub common_collected : (w s t : ℕ) → s < 2 ^ w → intersection s t ≡ collect w (λ r. member r s && member r t)

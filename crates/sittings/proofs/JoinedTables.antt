@@ -1,24 +1,24 @@
 -- Tables with more members in an entry, tests of some entry, and tables whose entries are all empty.
 -- Assumes nothing.
 use mathlib.Core.Path.{◌≡◌, refl, sym, ap, ap₂, ◌∙◌, subst}
-use mathlib.Core.Bool.{Bool, true, false, ◌&&◌, ◌||◌, and-true}
+use mathlib.Core.Bool.{Bool, true, false, ◌&&◌, ◌||◌, and-true, or-false, or_assoc}
 use mathlib.Core.Logic.{◌≢◌}
 use mathlib.Core.List.{List, [], ◌∷◌}
-use Prim.Native.Nat.{ℕ, zero, suc}
+use Prim.Native.Nat.{ℕ, zero, suc, min, ◌<◌, ◌≤◌}
 use native.Mathlib.Omega.{arith}
 use native.Mathlib.Decide.{ℕ_discrete, dec_lt}
 use borrow.Author.Tests.{lt-ltb, le-ltb, eq-eqb, ne_eqb}
 use lib.Dec.{T, eqb, ltb}
-use lib.ListN.{length, set, length-set}
-use lib.Seq.{get_or-set_same, get_or-set_other, set_out}
+use lib.ListN.{length, set, take, length-set}
+use lib.Seq.{get_or-set_same, get_or-set_other, set_out, length-take-le, get_or-take}
 use Rattle.std.specs.List.{list_any, fold}
 use Rattle.sets.specs.Counting.{any}
 use Rattle.sets.specs.Sets.{member, union, when}
 use Rattle.sets.proofs.Tests.{both, join, same_test, test_equal, equal_test, and_regroup}
-use Rattle.sets.proofs.Laws.{union-empty, equal_members}
+use Rattle.sets.proofs.Laws.{union-empty, equal_members, member-union, member-when}
 use Rattle.sets.proofs.Members.{in_empty, union_left, union_right}
 use Rattle.graph.specs.Tables.{at}
-use Rattle.graph.proofs.Tables.{table_ext}
+use Rattle.graph.proofs.Tables.{at_end, table_ext}
 use Rattle.seats.specs.Records.{all_empty}
 use Rattle.seats.proofs.Requests.{when-empty}
 use Rattle.sittings.specs.Working.{joined_at}
@@ -47,6 +47,31 @@ pub entry_joined : (l : List ℕ) (n more i : ℕ) {own kept added all : ℕ} �
     → all ≡ at (joined_at l n more) i
 entry_joined l n more i a b c d = d ∙ ap₂ union a (c ∙ ap (when (eqb i n)) b) ∙ sym (at-joined l n more i)
 
+-- The rows of a table, but for those from 64 on.
+module _ (l : List ℕ) {k : ℕ} (e : k ≡ min (length l) 64) where
+  row_count : length (take k l) ≡ k
+  row_count = length-take-le k l (omega (arith, e))
+
+  -- One of them is a row of the table, below 64.
+  pub row_below : {i : ℕ} → i < length (take k l) → (i < length l) × (i < 64)
+  row_below h = (omega (arith, e, h, row_count), omega (arith, e, h, row_count))
+
+  -- It is read and joined in one step.
+  pub row_joined : (n more i : ℕ) → i < length (take k l) → {added all : ℕ} → added ≡ when (eqb i n) more → all ≡ union (at (take k l) i) added → all ≡ at (joined_at l n more) i
+  unfolding at when
+  row_joined n more i h a b =
+      b
+      ∙ ap₂ union (get_or-take k l i 0 (omega (arith, h, row_count))) (a ∙ elim (ℕ_discrete i n) [ yes d ↦ here d | no d ↦ rw (ne_eqb i n d) refl ])
+      ∙ sym (at-joined l n more i)
+    where
+      here : i ≡ n → when (eqb i n) more ≡ when (eqb i n) (when (ltb n (length l)) more)
+      here d = rw (lt-ltb n (length l) (subst (λ (x : ℕ). x < length l) d (row_below h).0)) refl
+
+  -- Behind them nothing is joined below 64.
+  pub row_end : (n more i : ℕ) → length (take k l) ≤ i → i < 64 → at (joined_at l n more) i ≡ 0
+  unfolding joined_at
+  row_end n more i h b = at_end _ i (omega (arith, e, h, b, row_count, length-set l n (union (at l n) more)))
+
 -- With nothing more the table is as it was.
 pub joined_none : (l : List ℕ) (n : ℕ) → joined_at l n 0 ≡ l
 unfolding joined_at
@@ -72,6 +97,15 @@ pub any_entry : (f : ℕ → Bool) (l : List ℕ) → list_any f l ≡ any (leng
 unfolding any at
 any_entry f [] = refl
 any_entry f (x ∷ l) = ap (λ (b : Bool). f x || b) (any_entry f l) ∙ sym (any_front (length l) (λ i. f (at (x ∷ l) i)))
+
+-- What a set has, joined by the entries of a list that have p: what it has, and what shares an entry with p.
+pub member_shared : (p q : ℕ) (l : List ℕ) (s : ℕ) → member q (fold (λ t own. union t (when (member p own) own)) s l) ≡ member q s || list_any (λ own. member p own && member q own) l
+member_shared p q [] s = sym (or-false (member q s))
+member_shared p q (x ∷ l) s =
+    let rest = list_any (λ own. member p own && member q own) l in
+    member_shared p q l (union s (when (member p x) x))
+    ∙ ap (λ (b : Bool). b || rest) (member-union q s (when (member p x) x) ∙ ap (◌||◌ (member q s)) (member-when q (member p x) x))
+    ∙ or_assoc (member q s) (member p x && member q x) rest
 
 -- ---- empty entries
 -- A union is empty where both its sets are.

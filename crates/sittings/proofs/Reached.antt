@@ -1,13 +1,13 @@
 -- What roles reach, and which pairs are together, by the table of the roles below each role.
 -- Assumes nothing.
 use mathlib.Core.Path.{◌≡◌, refl, sym, ap, ap₂, ◌∙◌, subst}
-use mathlib.Core.Bool.{Bool, ◌&&◌, ◌||◌}
+use mathlib.Core.Bool.{Bool, false, ◌&&◌, ◌||◌}
 use mathlib.Core.Logic.{inl, inr}
 use mathlib.Core.List.{List}
 use Prim.Native.Nat.{ℕ, ◌<◌}
 use lib.Dec.{T, eqb, ltb, lt→ltb}
 use Rattle.sets.specs.Counting.{any}
-use Rattle.sets.specs.Sets.{member}
+use Rattle.sets.specs.Sets.{digit, member, union, when, gather}
 use Rattle.sets.proofs.Tests.{both, join, either, or_left, or_right, same_test, passes, fails, equal_test, test_equal}
 use Rattle.sets.proofs.Counting.{any-some, some-any, any_cong}
 use Rattle.sets.proofs.Laws.{member-union, member-collect, member-gather}
@@ -22,7 +22,7 @@ use Rattle.graph.proofs.Searches.{found_cong, found_none}
 use Rattle.seats.specs.Seats.{seat_count}
 use Rattle.seats.specs.Records.{all_empty}
 use Rattle.sittings.specs.Sittings.{Sitting, reaches, in_use, together, clashing}
-use Rattle.sittings.specs.Working.{reached_by, clash_by}
+use Rattle.sittings.specs.Working.{reached_by, together_by, meets_by, clash_by}
 use Rattle.sittings.proofs.JoinedTables.{empty_entries}
 
 -- Some number passes f and is t or passes h: t passes f, or some number passes both.
@@ -47,6 +47,19 @@ any_here n t f h l = same_test _ _ there back
               let (a, c) = both (f r) (h r) z in
               some-any n (λ r. f r && (eqb t r || h r)) r k (join (f r) (eqb t r || h r) a (or_right (eqb t r) (h r) c)))
         ]
+
+-- No roles reach none.
+pub none_reached : (lower : List ℕ) → reached_by lower 0 ≡ 0
+unfolding gather union when member digit
+none_reached lower = refl
+
+-- No role of an empty row is together with one.
+pub none_met : (lower used : List ℕ) (p : ℕ) → meets_by lower used p 0 ≡ false
+none_met lower used p =
+    fails (meets_by lower used p 0)
+    (λ x.
+    let (q, _, y) = any-some role_count (λ q. member q 0 && together_by lower used p q) x in
+    in_empty q (both (member q 0) (together_by lower used p q) y).0)
 
 -- The table of the roles below each.
 abbrev pub lowers : Graph → List ℕ

@@ -1,5 +1,6 @@
 // The search behind refusal 35: the lowest role that is the lower of an excluding pair that is together.
-ghost use Rattle.std.specs.Prelude.{◌≡◌};
+ghost use Rattle.std.specs.Prelude.{◌≡◌, ℕ};
+ghost use Rattle.sets.specs.Sets.{member};
 ghost use Rattle.graph.specs.Tables.{at};
 ghost use Rattle.graph.specs.Graph.{role_count};
 ghost use Rattle.graph.specs.Searching.{lowest_found};
@@ -7,7 +8,7 @@ ghost use Rattle.graph.specs.Reading.{read_found};
 ghost use Rattle.seats.specs.Records.{all_empty};
 ghost use Rattle.sittings.specs.Sittings.{clashing};
 ghost use Rattle.sittings.specs.Reading.{lent, sitting_of};
-ghost use Rattle.sittings.specs.Working.{joined_at, shared_by, together_by, meets_by, clash_by};
+ghost use Rattle.sittings.specs.Working.{joined_at, shared_by, meets_by, clash_by};
 
 use crate::LentSitting;
 use crate::reaching::all_reached;
@@ -57,49 +58,48 @@ impl Offer {
 // By number, the roles below each role, and the roles that each seat uses.
 #[derive(Clone, Copy)]
 struct Use<'a> {
-    lower: &'a [u64],
+    lower: &'a [u64; 64],
     used: &'a [u64; 64],
 }
 
 impl<'a> Use<'a> {
-    // Whether some seat uses both p and q.
-    fn shared(self, p: usize, q: usize) -> bool
-        ensures { result ≡ shared_by self.entry.used.now p q }
+    // The roles that some seat uses together with p.
+    fn shared(self, p: usize) -> u64
+        ensures { (q : ℕ) → member q result ≡ shared_by self.entry.used.now p q }
     {
         let used = self.used;
-        used.iter().any(|own| own.member(p) & own.member(q))
+        used.iter()
+            .fold(0u64, |found, own| found.union(own.when(own.member(p))))
     }
 
-    // Whether one of two roles is below the other, or some seat uses both.
-    fn is_together(self, p: usize, q: usize) -> bool
-        ensures { result ≡ together_by self.entry.lower.now self.entry.used.now p q }
-    {
-        let up = entry::<u64>(self.lower, q).member(p);
-        let down = entry::<u64>(self.lower, p).member(q);
-        up | down || self.shared(p, q)
-    }
-
-    // Whether some role of the row is together with p.
+    // Whether some role of the row is together with p: one of the two is below the other, or some seat uses both.
+    // What is below p and what seats use with it is gathered once for the row, which takes less time than for each of its roles.
     fn meets(self, p: usize, row: u64) -> bool
         ensures { result ≡ meets_by self.entry.lower.now self.entry.used.now p row }
     {
-        row.members().any(|q| self.is_together(p, q as usize))
-    }
-
-    // Whether some role of row p, where these roles are added to row n, is together with p.
-    fn meets_with(self, pairs: &[u64], p: u8, added: Row<u64>) -> bool
-        ensures { result ≡ meets_by self.entry.lower.now self.entry.used.now p (at (joined_at pairs.now added.at added.set) p) }
-    {
-        let i = p as usize;
-        let more = added.set.when(added.at < pairs.len());
-        self.meets(i, entry::<u64>(pairs, i).union(more.when(i == added.at)))
+        if row == 0 {
+            return false;
+        }
+        let lower = self.lower;
+        let beside = entry::<u64>(lower, p).union(self.shared(p));
+        row.members().any(|q| {
+            let i = q as usize;
+            entry::<u64>(lower, i).member(p) | beside.member(i)
+        })
     }
 
     // The lowest role whose row has a role together with it, where these roles are added to a row.
+    // The rows that the table has are gone through, so that its length is not tested at each.
     fn lowest_clash(self, pairs: &[u64], added: Row<u64>) -> Option<u8>
         ensures { read_found result ≡ lowest_found role_count (λ p. meets_by self.entry.lower.now self.entry.used.now p (at (joined_at pairs.now added.at added.set) p)) }
     {
-        (0..64u8).find(|p| self.meets_with(pairs, *p, added))
+        let rows = &pairs[..pairs.len().min(64)];
+        for (p, row) in rows.iter().enumerate() {
+            if self.meets(p, row.union(added.set.when(p == added.at))) {
+                return Some(p as u8);
+            }
+        }
+        None
     }
 }
 
@@ -114,7 +114,9 @@ pub(crate) fn all_empty(table: &[u64]) -> bool
 }
 
 // The lower role of the lowest excluding pair that is together, by a table of the roles below each, with what is offered.
-pub(crate) fn clash_by(lower: &[u64], pairs: &[u64], active: &[u64], offer: Offer) -> Option<u8>
+// Never inlined, so that its tables take stack in no other call.
+#[inline(never)]
+pub(crate) fn clash_by(lower: &[u64; 64], pairs: &[u64], active: &[u64], offer: Offer) -> Option<u8>
     ensures { read_found result ≡ clash_by lower.now (joined_at pairs.now offer.pair.at offer.pair.set) (joined_at active.now offer.active.at offer.active.set) }
 {
     let used = all_reached(lower, active, offer.active);

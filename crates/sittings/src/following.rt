@@ -23,7 +23,7 @@ use sets::Set;
 use std::array;
 
 // The active roles of every seat that its assigned roles reach, by a table of the roles below each.
-fn still_active<'a>(lower: &'a [u64], seats: &'a [u64], active: &'a [u64]) -> [u64; 64]
+fn still_active<'a>(lower: &'a [u64; 64], seats: &'a [u64], active: &'a [u64]) -> [u64; 64]
     ensures { result ≡ still_by lower.now seats.now active.now }
 {
     array::from_fn(|i| {

@@ -11,7 +11,6 @@ ghost use Rattle.sittings.specs.Working.{reached_by, joined_at};
 use graph::table::{Row, entry, union_at};
 use graph::{Role, RoleGraph};
 use sets::Set;
-use std::array;
 
 // Whether one of the roles is t, or t lies below it.
 pub(crate) fn is_reached(graph: RoleGraph, held: u64, t: Role) -> bool
@@ -32,16 +31,21 @@ pub(crate) fn still_reached(graph: RoleGraph, held: u64, own: u64) -> u64
 }
 
 // The roles that these reach, by a table of the roles below each.
-pub(crate) fn reached(lower: &[u64], held: u64) -> u64
+pub(crate) fn reached(lower: &[u64; 64], held: u64) -> u64
     ensures { result ≡ reached_by lower.now held }
 {
     held.union(union_at(lower, held))
 }
 
 // By number, the roles that a table's entries reach, where these roles are added to an entry.
-pub(crate) fn all_reached<'a>(lower: &'a [u64], held: &'a [u64], added: Row<u64>) -> [u64; 64]
+// The rows that the table has are gone through, so that its length is not tested at each.
+pub(crate) fn all_reached<'a>(lower: &'a [u64; 64], held: &'a [u64], added: Row<u64>) -> [u64; 64]
     ensures { result ≡ table seat_count (λ i. reached_by lower.now (at (joined_at held.now added.at added.set) i)) }
 {
-    let more = added.set.when(added.at < held.len());
-    array::from_fn(|i| reached(lower, entry::<u64>(held, i).union(more.when(i == added.at))))
+    let rows = &held[..held.len().min(64)];
+    let mut all = [0u64; 64];
+    for (i, own) in rows.iter().enumerate() {
+        all[i] = reached(lower, own.union(added.set.when(i == added.at)));
+    }
+    all
 }
